@@ -1,0 +1,6 @@
+//! Lists of bytes, names and nets.
+#![tactic(auto)]
+
+mod lists;
+
+pub use lists::{Bytes, NameList, NetList};

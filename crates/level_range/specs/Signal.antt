@@ -1,0 +1,57 @@
+-- Signals as clauses see them: what they read as, how `%v` prints them, and what a gate of two strengths drives.
+use Rattle.std.specs.Prelude.{ℕ, zero, suc, ℤ, pos, negsuc, ◌+◌, int_lt, unsigned_abs, if◌then◌else◌, List, [], ◌∷◌, ◌++◌, codes, nat_eq}
+use Rattle.level_range.specs.declared.range.Logic.{Logic}
+use Rattle.level_range.specs.declared.range.Logic.TheVariants.{Zero, One, X, Z}
+
+-- a signal: all levels from lo to hi
+pub record Signal : Type 0 where
+  pub lo : ℤ
+  pub hi : ℤ
+
+-- 0 where all levels are below 0, 1 where all are above, z where the only level is 0, else x
+abbrev pub reads : Signal → Logic
+reads s =
+    if int_lt s.hi (pos 0) then Zero
+    else if int_lt (pos 0) s.lo then One
+    else if int_lt s.lo (pos 0) then X
+    else if int_lt (pos 0) s.hi then X
+    else Z
+
+-- the two letters of a strength level
+abbrev pub mnemonic : ℕ → List ℕ
+mnemonic level =
+    if nat_eq level 7 then codes "Su"
+    else if nat_eq level 6 then codes "St"
+    else if nat_eq level 5 then codes "Pu"
+    else if nat_eq level 4 then codes "La"
+    else if nat_eq level 3 then codes "We"
+    else if nat_eq level 2 then codes "Me"
+    else if nat_eq level 1 then codes "Sm"
+    else codes "Hi"
+
+-- one strength by its letters, or a greater and a smaller one by their digits
+abbrev pub strengths : ℕ → ℕ → List ℕ
+strengths a b = if nat_eq a b then mnemonic a else (48 + a) ∷ (48 + b) ∷ []
+
+-- the three characters of `%v`
+abbrev pub shown : Signal → List ℕ
+shown s =
+    if int_lt s.hi (pos 0) then strengths (unsigned_abs s.lo) (unsigned_abs s.hi) ++ codes "0"
+    else if int_lt (pos 0) s.lo then strengths (unsigned_abs s.hi) (unsigned_abs s.lo) ++ codes "1"
+    else if int_lt s.lo (pos 0) then
+    (if int_lt (pos 0) s.hi then strengths (unsigned_abs s.lo) (unsigned_abs s.hi) ++ codes "X"
+    else mnemonic (unsigned_abs s.lo) ++ codes "L")
+    else if int_lt (pos 0) s.hi then mnemonic (unsigned_abs s.hi) ++ codes "H"
+    else codes "HiZ"
+
+-- a strength of value 0 as a level
+abbrev pub below : ℕ → ℤ
+below zero = pos 0
+below (suc k) = negsuc k
+
+-- what a result drives with strength s0 for 0 and s1 for 1
+abbrev pub span_of : Logic → ℕ → ℕ → Signal
+span_of Zero s0 s1 = record { lo = below s0; hi = below s0 }
+span_of One s0 s1 = record { lo = pos s1; hi = pos s1 }
+span_of X s0 s1 = record { lo = below s0; hi = pos s1 }
+span_of Z s0 s1 = record { lo = pos 0; hi = pos 0 }

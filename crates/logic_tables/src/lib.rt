@@ -1,0 +1,6 @@
+//! Logic gates and enables as tables over the four values.
+#![tactic(auto)]
+
+mod kinds;
+
+pub use kinds::{EnableKind, EnableOut, FoldKind};
