@@ -1,2 +1,5 @@
 pub mod Signal
 pub mod Bounds
+pub mod Levels
+pub mod Combine
+pub mod Reduce

@@ -1,5 +1,5 @@
 -- Signals as clauses see them: what they read as, how `%v` prints them, and what a gate of two strengths drives.
-use Rattle.std.specs.Prelude.{ℕ, zero, suc, ℤ, pos, negsuc, ◌+◌, int_lt, unsigned_abs, if◌then◌else◌, List, [], ◌∷◌, ◌++◌, codes, nat_eq}
+use Rattle.std.specs.Prelude.{ℕ, zero, suc, ℤ, pos, negsuc, ◌+◌, ◌≤ℤ◌, int_lt, unsigned_abs, if◌then◌else◌, List, [], ◌∷◌, ◌++◌, codes, nat_eq}
 use Rattle.level_range.specs.declared.range.Logic.{Logic}
 use Rattle.level_range.specs.declared.range.Logic.TheVariants.{Zero, One, X, Z}
 
@@ -7,6 +7,16 @@ use Rattle.level_range.specs.declared.range.Logic.TheVariants.{Zero, One, X, Z}
 pub record Signal : Type 0 where
   pub lo : ℤ
   pub hi : ℤ
+
+-- z: the signal of a net that nothing drives
+abbrev pub undriven : Signal
+undriven = record { lo = pos 0; hi = pos 0 }
+
+-- a signal's levels go from -7 to 7, and it has at least one
+pub record IsSignal (s : Signal) : Type 0 where
+  pub low : negsuc 6 ≤ℤ s.lo
+  pub order : s.lo ≤ℤ s.hi
+  pub high : s.hi ≤ℤ pos 7
 
 -- 0 where all levels are below 0, 1 where all are above, z where the only level is 0, else x
 abbrev pub reads : Signal → Logic

@@ -1,5 +1,6 @@
-ghost use Rattle.std.specs.Prelude.{◌≡◌, pos, negsuc, ◌≤ℤ◌};
-ghost use Rattle.level_range.specs.Signal.{reads};
+ghost use Rattle.std.specs.Prelude.{◌≡◌, [], ◌∷◌, pos, negsuc, ◌≤ℤ◌};
+ghost use Rattle.level_range.specs.Signal.{reads, undriven};
+ghost use Rattle.level_range.specs.Levels.{IsReading};
 
 use std::marker::Model;
 
@@ -53,13 +54,20 @@ impl Model for Range {
 }
 
 impl Range {
+    ghost use Rattle.level_range.specs.declared.range.Kind.{Kind};
+    ghost use Rattle.level_range.specs.Combine.{IsCombination};
+
     /// The signal of all levels from `lo` to `hi`.
+    ///
+    /// It is the combination of itself alone, and at 0 that of no signals.
     pub fn new(lo: i8, hi: i8) -> Range
         requires low { negsuc 6 ≤ℤ lo }
         requires order { lo ≤ℤ hi }
         requires high { hi ≤ℤ pos 7 }
         ensures lo { result.lo ≡ lo }
         ensures hi { result.hi ≡ hi }
+        ensures alone { (kind : Kind) → IsCombination kind (result ∷ []) result }
+        ensures none { (kind : Kind) → result ≡ undriven → IsCombination kind [] result }
     {
         Range { lo, hi }
     }
@@ -67,7 +75,8 @@ impl Range {
 
 /// What a signal reads as.
 pub fn read(a: Range) -> Logic
-    ensures { result ≡ reads a }
+    ensures value { result ≡ reads a }
+    ensures levels { IsReading a result }
 {
     if a.hi < 0 {
         Logic::Zero

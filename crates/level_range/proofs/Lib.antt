@@ -1,0 +1,4 @@
+pub mod Better
+pub mod Best
+pub mod Combination
+pub mod Reduction
