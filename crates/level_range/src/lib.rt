@@ -12,3 +12,6 @@ pub use drive::span;
 pub use range::{Conduct, Kind, Logic, Range, read};
 pub use show::percent_v;
 pub use switch::{maybe, reduce};
+
+#[cfg(test)]
+mod tests;

@@ -5,8 +5,13 @@ mod fold;
 mod gates;
 mod kinds;
 mod table;
+mod three_state;
 
 pub use fold::fold_gate;
 pub use gates::{and_table, buf_table, not_table, or_table, xor_table};
 pub use kinds::{EnableKind, EnableOut, FoldKind};
 pub use table::Table;
+pub use three_state::{conduct, enable, enable_span};
+
+#[cfg(test)]
+mod tests;
