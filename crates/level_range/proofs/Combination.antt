@@ -5,13 +5,14 @@ use Rattle.std.specs.List.Sorted.{IsPermutation}
 use Rattle.std.proofs.Common.{arith, ap, sym, ◌∙◌, inl, inr, subst, append_assoc, append-nil}
 use Rattle.std.proofs.lemmas.Int.{ints}
 use Rattle.std.proofs.lemmas.List.{map-append}
+use Rattle.std.proofs.lemmas.List.Sums.{fold_push}
 use Rattle.std.proofs.lemmas.List.Elements.{All-cons, All-head, All-tail, All-append}
 use Rattle.std.proofs.lemmas.List.Sorted.{IsPermutation-refl, IsPermutation-map, All-permutation}
 use Rattle.level_range.specs.declared.range.Kind.{Kind}
 use Rattle.level_range.specs.declared.range.Kind.TheVariants.{Plain, And, Or}
-use Rattle.level_range.specs.Signal.{Signal, undriven}
+use Rattle.level_range.specs.Signal.{Signal, undriven, IsSignal}
 use Rattle.level_range.specs.Levels.{IsFilled}
-use Rattle.level_range.specs.Combine.{IsChoice, Wins, Gives, Combined, IsCombination, better_low, better_high, lower_of, upper_of, joined, combination_of}
+use Rattle.level_range.specs.Combine.{IsChoice, Wins, Gives, Combined, IsCombination, better_low, better_high, lower_of, upper_of, joined, combination_of, JoinsNext}
 use Rattle.level_range.proofs.Better.{IsBetter, lower, upper}
 use Rattle.level_range.proofs.Best.{best, best-append, best-wins, best-first, best-permutation}
 
@@ -252,3 +253,12 @@ upper_of-high kind greatest x y h k = elim (upper_of-picks kind x y) [ inl e ↦
 
 pub lower_of-upper_of : (kind : Kind) (x y u v : ℤ) → x ≤ℤ u → y ≤ℤ v → lower_of kind x y ≤ℤ upper_of kind u v
 lower_of-upper_of kind x y u v h k = joined-some kind (record { lo = x; hi = u }) (record { lo = y; hi = v }) h k
+
+pub joined-next : (kind : Kind) (a b : Signal) → JoinsNext kind a b (joined kind a b)
+unfolding JoinsNext
+joined-next kind a b signals all is_b is_a =
+    let e : joined kind a b ≡ combination_of kind (signals ++ b ∷ []) =
+    ap (λ s. joined kind s b) is_a ∙ sym (fold_push (joined kind) undriven signals b) in
+    let some : All HasSome (signals ++ b ∷ []) = λ k d lt.
+    (All-append IsSignal signals (b ∷ []) all (All-cons IsSignal b [] is_b (λ j x h. absurd (omega (arith, h)))) k d lt).order in
+    (e, subst (IsCombination kind (signals ++ b ∷ [])) (sym e) (combination_of-is kind (signals ++ b ∷ []) some))

@@ -5,6 +5,7 @@ use Rattle.std.proofs.lemmas.Int.{ints, clamps}
 use Rattle.level_range.specs.Signal.{Signal, below, reads, undriven, IsSignal}
 use Rattle.level_range.specs.Levels.{Includes}
 use Rattle.level_range.proofs.Combination.{self, trans}
+use Rattle.level_range.specs.Combine.{better_low, better_high}
 use Rattle.level_range.specs.Reduce.{reduced_strength, reduced_level, reduced, IsReduction, IsHull, hull_of}
 
 -- a greater strength is not less behind a switch
@@ -71,6 +72,17 @@ pub reduced_level-weaker : (resistive : Bool) (v : ℤ) → unsigned_abs (reduce
 unfolding reduced_level
 reduced_level-weaker true v = grind (arith, ints)
 reduced_level-weaker false v = grind (arith, ints)
+
+-- a level behind a switch is no better bound than the level itself
+pub better_low-reduced : (resistive : Bool) (v : ℤ) → better_low v (reduced_level resistive v) ≡ v
+unfolding better_low reduced_level
+better_low-reduced resistive (pos n) = let h = reduced_strength-weaker resistive n in grind (arith, ints)
+better_low-reduced resistive (negsuc n) = let h = reduced_strength-weaker resistive (suc n) in grind (arith, ints)
+
+pub better_high-reduced : (resistive : Bool) (v : ℤ) → better_high v (reduced_level resistive v) ≡ v
+unfolding better_high reduced_level
+better_high-reduced resistive (pos n) = let h = reduced_strength-weaker resistive n in grind (arith, ints)
+better_high-reduced resistive (negsuc n) = let h = reduced_strength-weaker resistive (suc n) in grind (arith, ints)
 
 -- a level keeps its sign behind a switch
 reduced_level-below : (resistive : Bool) (v : ℤ) → int_lt (reduced_level resistive v) (pos 0) ≡ int_lt v (pos 0)

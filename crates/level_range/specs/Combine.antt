@@ -1,9 +1,10 @@
--- Combining the signals that drive one net.
-use Rattle.std.specs.Prelude.{◌≤◌, ℤ, pos, ◌≤ℤ◌, unsigned_abs, nat_lt, if◌then◌else◌, List, [], ◌∷◌, ◌++◌, All, Contains, fold, IsPermutation}
+-- Combining the signals that drive one net (IEEE 1364-2005, 7.10). What an ambiguous strength gives against one of
+-- equal level, or against another ambiguous one, is this project's own.
+use Rattle.std.specs.Prelude.{◌≡◌, ◌≤◌, ℤ, pos, ◌≤ℤ◌, unsigned_abs, nat_lt, if◌then◌else◌, List, [], ◌∷◌, ◌++◌, All, Contains, fold, IsPermutation}
 use Rattle.std.specs.Int.{int_min, int_max}
 use Rattle.level_range.specs.declared.range.Kind.{Kind}
 use Rattle.level_range.specs.declared.range.Kind.TheVariants.{Plain, And, Or}
-use Rattle.level_range.specs.Signal.{Signal, undriven}
+use Rattle.level_range.specs.Signal.{Signal, undriven, IsSignal}
 use Rattle.level_range.specs.Levels.{HasLevel, IsFilled}
 
 -- a choice takes one level out of each signal
@@ -70,3 +71,9 @@ unfoldable pub JoinsLists : Kind → Signal → Signal → Signal → Type 0
 JoinsLists kind a b s =
     (xs ys zs : List Signal) → IsCombination kind xs a → IsCombination kind ys b → IsPermutation (xs ++ ys) zs
     → IsCombination kind zs s
+
+-- where a is the combination of a list, s is that of the list with b at its end
+unfoldable pub JoinsNext : Kind → Signal → Signal → Signal → Type 0
+JoinsNext kind a b s =
+    (signals : List Signal) → All IsSignal signals → IsSignal b → a ≡ combination_of kind signals
+    → (s ≡ combination_of kind (signals ++ b ∷ [])) × IsCombination kind (signals ++ b ∷ []) s

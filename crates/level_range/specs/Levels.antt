@@ -21,12 +21,15 @@ Filled S v = ((u : ℤ) × S u × (u ≤ℤ v)) × ((w : ℤ) × S w × (v ≤�
 abbrev pub IsFilled : (ℤ → Type 0) → Signal → Type 0
 IsFilled S s = (v : ℤ) → HasLevel s v ↔ Filled S v
 
+-- all levels are of value 0
 abbrev pub AllBelow : Signal → Type 0
 AllBelow s = (v : ℤ) → HasLevel s v → v <ℤ pos 0
 
+-- all levels are of value 1
 abbrev pub AllAbove : Signal → Type 0
 AllAbove s = (v : ℤ) → HasLevel s v → pos 0 <ℤ v
 
+-- the only level is 0
 abbrev pub AllZero : Signal → Type 0
 AllZero s = (v : ℤ) → HasLevel s v → v ≡ pos 0
 

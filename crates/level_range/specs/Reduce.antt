@@ -4,7 +4,7 @@ use Rattle.std.specs.Int.{int_min, int_max}
 use Rattle.level_range.specs.Signal.{Signal, below}
 use Rattle.level_range.specs.Levels.{HasLevel, Includes, IsFilled}
 
--- a strength behind a switch: a non-resistive one weakens supply alone (IEEE 1364-2005, 7.12 and 7.13)
+-- a strength behind a switch: a non-resistive one weakens supply alone (IEEE 1364-2005, 7.11 and 7.12)
 abbrev pub reduced_strength : Bool → ℕ → ℕ
 reduced_strength false n = if nat_eq n 7 then 6 else n
 reduced_strength true n =

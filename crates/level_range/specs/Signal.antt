@@ -27,7 +27,7 @@ reads s =
     else if int_lt (pos 0) s.hi then X
     else Z
 
--- the two letters of a strength level
+-- the two letters of a strength level (IEEE 1364-2005, 17.1.1.5)
 abbrev pub mnemonic : ℕ → List ℕ
 mnemonic level =
     if nat_eq level 7 then codes "Su"
@@ -43,7 +43,8 @@ mnemonic level =
 abbrev pub strengths : ℕ → ℕ → List ℕ
 strengths a b = if nat_eq a b then mnemonic a else (48 + a) ∷ (48 + b) ∷ []
 
--- the three characters of `%v`
+-- the three characters of `%v` (IEEE 1364-2005, 17.1.1.5); a signal of value 0 or 1 that has a range prints its
+-- greatest and its least strength, which is this project's own
 abbrev pub shown : Signal → List ℕ
 shown s =
     if int_lt s.hi (pos 0) then strengths (unsigned_abs s.lo) (unsigned_abs s.hi) ++ codes "0"

@@ -5,7 +5,7 @@ ghost use Rattle.level_range.specs.Levels.{IsReading};
 use std::marker::Model;
 
 /// How the drivers of one net are combined: on a plain net, a wired and or a wired or
-/// (IEEE 1364-2005, 7.10 and 7.11).
+/// (IEEE 1364-2005, 7.10).
 #[derive(Clone, Copy, Debug, PartialEq, Eq)]
 pub enum Kind {
     Plain,

@@ -3,7 +3,7 @@ ghost use Rattle.level_range.specs.Signal.{mnemonic as letters_of, strengths as 
 
 use crate::range::Range;
 
-/// The two letters of a strength level (IEEE 1364-2005, 7.9).
+/// The two letters of a strength level (IEEE 1364-2005, 17.1.1.5).
 fn mnemonic(level: u8) -> [u8; 2]
     ensures { result ≡ letters_of level }
 {

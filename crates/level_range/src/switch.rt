@@ -5,7 +5,7 @@ ghost use Rattle.level_range.specs.Reduce.{reduced_strength as strength_of, redu
 
 use crate::range::Range;
 
-/// A strength behind a switch (IEEE 1364-2005, 7.12 and 7.13).
+/// A strength behind a switch (IEEE 1364-2005, 7.11 and 7.12).
 fn reduced_strength(strength: u8, resistive: bool) -> u8
     ensures { result ≡ strength_of resistive strength }
 {

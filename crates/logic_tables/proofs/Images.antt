@@ -1,7 +1,8 @@
 -- The value of a gate on a list, and that of its tail.
-use Rattle.std.specs.Prelude.{◌≡◌, Bool, true, false, not, ◌&&◌, ◌||◌, List, [], ◌∷◌, ◌++◌, map, fold, length, if◌then◌else◌, refl}
-use Rattle.std.proofs.Common.{sym, ◌∙◌, ap, arith}
+use Rattle.std.specs.Prelude.{ℕ, ◌+◌, ◌%◌, nat_eq, cond, ◌≡◌, Bool, true, false, not, ◌&&◌, ◌||◌, List, [], ◌∷◌, ◌++◌, map, fold, length, if◌then◌else◌, refl}
+use Rattle.std.proofs.Common.{zero-add, sym, ◌∙◌, ap, arith}
 use Rattle.std.proofs.lemmas.List.{map-append}
+use Rattle.std.proofs.lemmas.List.Sums.{sum_by-cons}
 use Rattle.std.proofs.lemmas.Simd.{map-map}
 use Rattle.std.proofs.lemmas.List.Folds.{list_all-append, list_any-append}
 use Rattle.std.specs.List.{flat_map}
@@ -145,9 +146,16 @@ or-fold pins =
     image-fold any_bit ◌||◌ or_cells Zero (λ b bits. refl) refl
     (λ pin a n h. grind (arith, h)) refl (λ a n. grind arith) (λ a b. grind arith) (λ a b c. grind arith) pins
 
+odd_next : (n : ℕ) → nat_eq ((1 + n) % 2) 1 ≡ not (nat_eq (n % 2) 1)
+odd_next n = grind arith
+
+is_odd-cons : (b : Bool) (bits : List Bool) → is_odd (b ∷ bits) ≡ (if b then not (is_odd bits) else is_odd bits)
+is_odd-cons true bits = rw (sum_by-cons (λ b. cond b 1 0) true bits) (odd_next _)
+is_odd-cons false bits = rw (sum_by-cons (λ b. cond b 1 0) false bits) (rw zero-add refl)
+
 pub xor-fold : (pins : List Logic) → fold_of Xor pins ≡ fold (cell_of xor_cells) Zero pins
 xor-fold pins =
-    image-fold is_odd (λ b r. if b then not r else r) xor_cells Zero (λ b bits. refl) refl
+    image-fold is_odd (λ b r. if b then not r else r) xor_cells Zero is_odd-cons refl
     (λ pin a n h. grind (arith, h)) refl (λ a n. grind arith) (λ a b. grind arith) (λ a b c. grind arith) pins
 
 -- the value of an inverted gate

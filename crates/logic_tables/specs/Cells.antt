@@ -33,6 +33,7 @@ IsTableOfTwo kind cells =
 abbrev pub IsTableOfOne : FoldKind → List (List Logic) → Type 0
 IsTableOfOne kind cells = (a : Logic) → cell_at cells (place_of a) 0 ≡ Some (fold_of kind (a ∷ []))
 
+-- and of two inputs
 abbrev pub and_cells : List (List Logic)
 and_cells =
     (Zero ∷ Zero ∷ Zero ∷ Zero ∷ [])
@@ -41,6 +42,7 @@ and_cells =
     ∷ (Zero ∷ X ∷ X ∷ X ∷ [])
     ∷ []
 
+-- or of two inputs
 abbrev pub or_cells : List (List Logic)
 or_cells =
     (Zero ∷ One ∷ X ∷ X ∷ [])
@@ -49,6 +51,7 @@ or_cells =
     ∷ (X ∷ One ∷ X ∷ X ∷ [])
     ∷ []
 
+-- exclusive or of two inputs
 abbrev pub xor_cells : List (List Logic)
 xor_cells =
     (Zero ∷ One ∷ X ∷ X ∷ [])
@@ -57,8 +60,10 @@ xor_cells =
     ∷ (X ∷ X ∷ X ∷ X ∷ [])
     ∷ []
 
+-- one input as it is
 abbrev pub buf_cells : List (List Logic)
 buf_cells = (Zero ∷ []) ∷ (One ∷ []) ∷ (X ∷ []) ∷ (X ∷ []) ∷ []
 
+-- one input inverted
 abbrev pub not_cells : List (List Logic)
 not_cells = (One ∷ []) ∷ (Zero ∷ []) ∷ (X ∷ []) ∷ (X ∷ []) ∷ []

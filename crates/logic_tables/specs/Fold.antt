@@ -1,6 +1,6 @@
 -- What a logic gate gives: the one Boolean result of all choices for its unknown inputs, or x where there are two.
-use Rattle.std.specs.Prelude.{◌≡◌, ◌<◌, ℕ, Bool, true, false, not, List, [], ◌∷◌, map, if◌then◌else◌}
-use Rattle.std.specs.List.{flat_map, list_all, list_any}
+use Rattle.std.specs.Prelude.{◌%◌, nat_eq, ◌≡◌, ◌<◌, ℕ, Bool, true, false, not, List, [], ◌∷◌, map, if◌then◌else◌}
+use Rattle.std.specs.List.{count_by, flat_map, list_all, list_any}
 use Rattle.level_range.specs.declared.range.Logic.{Logic}
 use Rattle.level_range.specs.declared.range.Logic.TheVariants.{Zero, One, X, Z}
 use Rattle.logic_tables.specs.declared.kinds.FoldKind.{FoldKind}
@@ -20,12 +20,13 @@ choices (pin ∷ pins) = flat_map (λ b. map (λ bits. b ∷ bits) (choices pins
 
 -- whether an odd number of the bits is 1
 abbrev pub is_odd : List Bool → Bool
-is_odd [] = false
-is_odd (b ∷ bits) = if b then not (is_odd bits) else is_odd bits
+is_odd bits = nat_eq (count_by (λ b. b) bits % 2) 1
 
+-- whether each bit is 1
 abbrev pub all_bits : List Bool → Bool
 all_bits bits = list_all (λ b. b) bits
 
+-- whether a bit is 1
 abbrev pub any_bit : List Bool → Bool
 any_bit bits = list_any (λ b. b) bits
 
@@ -44,6 +45,7 @@ boolean Not bits = not (all_bits bits)
 abbrev pub image : List Bool → Logic
 image results = if all_bits results then One else if any_bit results then X else Zero
 
+-- the value of a gate on a list of inputs
 abbrev pub fold_of : FoldKind → List Logic → Logic
 fold_of kind pins = image (map (boolean kind) (choices pins))
 

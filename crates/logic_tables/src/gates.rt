@@ -12,7 +12,7 @@ macro_rules! table {
     };
 }
 
-/// The and of two inputs (IEEE 1364-2005, table 7-3).
+/// The and of two inputs (IEEE 1364-2005, 7.2).
 pub fn and_table() -> Table<4, 4>
     ensures cells { result.cells ≡ and_cells }
     ensures gate { IsTableOfTwo FoldKind.And result.cells }
@@ -25,7 +25,7 @@ pub fn and_table() -> Table<4, 4>
     }
 }
 
-/// The or of two inputs (IEEE 1364-2005, table 7-3).
+/// The or of two inputs (IEEE 1364-2005, 7.2).
 pub fn or_table() -> Table<4, 4>
     ensures cells { result.cells ≡ or_cells }
     ensures gate { IsTableOfTwo FoldKind.Or result.cells }
@@ -38,7 +38,7 @@ pub fn or_table() -> Table<4, 4>
     }
 }
 
-/// The exclusive or of two inputs (IEEE 1364-2005, table 7-3).
+/// The exclusive or of two inputs (IEEE 1364-2005, 7.2).
 pub fn xor_table() -> Table<4, 4>
     ensures cells { result.cells ≡ xor_cells }
     ensures gate { IsTableOfTwo FoldKind.Xor result.cells }
@@ -51,7 +51,7 @@ pub fn xor_table() -> Table<4, 4>
     }
 }
 
-/// The buffer of one input (IEEE 1364-2005, table 7-4).
+/// The buffer of one input (IEEE 1364-2005, 7.3).
 pub fn buf_table() -> Table<4, 1>
     ensures cells { result.cells ≡ buf_cells }
     ensures gate { IsTableOfOne FoldKind.Buf result.cells }
@@ -64,7 +64,7 @@ pub fn buf_table() -> Table<4, 1>
     }
 }
 
-/// The inverter of one input (IEEE 1364-2005, table 7-4).
+/// The inverter of one input (IEEE 1364-2005, 7.3).
 pub fn not_table() -> Table<4, 1>
     ensures cells { result.cells ≡ not_cells }
     ensures gate { IsTableOfOne FoldKind.Not result.cells }
