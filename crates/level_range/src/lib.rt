@@ -2,5 +2,9 @@
 #![tactic(auto)]
 
 mod range;
+mod show;
+mod drive;
 
-pub use range::{Conduct, Kind, Logic, Range};
+pub use range::{Conduct, Kind, Logic, Range, read};
+pub use show::percent_v;
+pub use drive::span;
