@@ -1,0 +1,4 @@
+pub mod Signals
+pub mod Ranges
+pub mod PassLemmas
+pub mod Writes

@@ -1,0 +1,5 @@
+pub mod Machine
+pub mod Pass
+pub mod Run
+pub mod Trace
+pub mod Shown
