@@ -1,4 +1,4 @@
-use Rattle.std.specs.Prelude.{ℤ, pos, negsuc, ◌≤ℤ◌}
+use Rattle.std.specs.Prelude.{pos, negsuc, ◌≤ℤ◌}
 use Rattle.level_range.specs.Signal.{Signal}
 use Rattle.level_range.specs.declared.range.Range.TheInside.{Inside}
 

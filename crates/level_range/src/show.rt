@@ -25,7 +25,11 @@ fn strengths(a: u8, b: u8) -> [u8; 2]
     requires b { b ≤ 7 }
     ensures { result ≡ strengths_of a b }
 {
-    if a == b { mnemonic(a) } else { [b'0' + a, b'0' + b] }
+    if a == b {
+        mnemonic(a)
+    } else {
+        [b'0' + a, b'0' + b]
+    }
 }
 
 /// The three characters that `%v` prints (IEEE 1364-2005, 17.1.1.5).

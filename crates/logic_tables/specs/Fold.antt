@@ -1,6 +1,6 @@
 -- What a logic gate gives: the one Boolean result of all choices for its unknown inputs, or x where there are two.
-use Rattle.std.specs.Prelude.{Bool, true, false, not, ◌&&◌, ◌||◌, List, [], ◌∷◌, map, if◌then◌else◌}
-use Rattle.std.specs.List.{flat_map, list_all, list_any, fold}
+use Rattle.std.specs.Prelude.{◌≡◌, ◌<◌, ℕ, Bool, true, false, not, List, [], ◌∷◌, map, if◌then◌else◌}
+use Rattle.std.specs.List.{flat_map, list_all, list_any}
 use Rattle.level_range.specs.declared.range.Logic.{Logic}
 use Rattle.level_range.specs.declared.range.Logic.TheVariants.{Zero, One, X, Z}
 use Rattle.logic_tables.specs.declared.kinds.FoldKind.{FoldKind}
@@ -46,3 +46,9 @@ image results = if all_bits results then One else if any_bit results then X else
 
 abbrev pub fold_of : FoldKind → List Logic → Logic
 fold_of kind pins = image (map (boolean kind) (choices pins))
+
+-- how many pins a gate takes: one alone for buf and not, else one or more
+abbrev pub Takes : FoldKind → ℕ → Type 0
+Takes Buf n = n ≡ 1
+Takes Not n = n ≡ 1
+Takes _ n = 0 < n

@@ -1,1 +1,3 @@
 pub mod Fold
+pub mod Cells
+pub mod Folded
