@@ -2,3 +2,5 @@ pub mod Signals
 pub mod Ranges
 pub mod PassLemmas
 pub mod Writes
+pub mod StepLemmas
+pub mod TraceLemmas

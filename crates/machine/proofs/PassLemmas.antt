@@ -17,7 +17,7 @@ use Rattle.gate_net.specs.declared.netlist.Gate.{Gate}
 use Rattle.gate_net.specs.declared.netlist.Netlist.{Netlist}
 use Rattle.machine.specs.Machine.{Machine, ElementState, NetState, Pending, strong, fresh_element, fresh_net, element_at, net_at}
 use Rattle.machine.specs.Pass.{is_due, is_due_at, matured, taken_effect, retargeted, is_pending, same_signal, no_gate, gate_at, element_drives, input_drives, combined, settled_net, target_of, evaluated, settle, evaluate, pass}
-use Rattle.machine.specs.Shown.{Values, logic_at, same_logic, element_of, net_of, IsUndriven, IsNoInput, HaveSizes, AreShown, ArePassed, SaysDue, next_value}
+use Rattle.machine.specs.Shown.{Values, values_from, logic_at, same_logic, element_of, net_of, IsUndriven, IsNoInput, HaveSizes, AreShown, ArePassed, SaysDue, next_value}
 use Rattle.machine.proofs.Signals.{reads-strong, same_signal-strong, same_logic-same, same_logic-true}
 use Rattle.machine.proofs.Ranges.{filter_map_none, filter_map_one, at_some_place}
 
@@ -191,3 +191,6 @@ due_shown netlist values m false shown says =
         let here : is_due_at m.time (get_or m.elements k fresh_element).due ≡ false =
             ap (λ (s : ElementState). is_due_at m.time s.due) (shown.elements k lt) ∙ due_element m.time (logic_at values.outs k) (logic_at values.targets k) true (says.none refl k lt) in
         subst (λ (s : ElementState). is_due_at m.time s.due ≡ false) (get_or_default m.elements k fresh_element d h) here)
+
+pub same_values : (a a' b b' d d' f : List Logic) → a ≡ a' → b ≡ b' → d ≡ d' → values_from a b d f ≡ values_from a' b' d' f
+same_values a a' b b' d d' f p q r = rw (p, q, r) refl

@@ -3,3 +3,5 @@ pub mod Pass
 pub mod Run
 pub mod Trace
 pub mod Shown
+pub mod StateValues
+pub mod PrintedPlaces

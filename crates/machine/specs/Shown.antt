@@ -16,6 +16,9 @@ pub record Values : Type 0 where
   pub seen : List Logic
   pub forced : List Logic
 
+abbrev pub values_from : List Logic → List Logic → List Logic → List Logic → Values
+values_from outs targets seen forced = record { outs = outs; targets = targets; seen = seen; forced = forced }
+
 abbrev pub logic_at : List Logic → ℕ → Logic
 logic_at values k = slice_index_or values k X
 

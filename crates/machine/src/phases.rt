@@ -1,30 +1,14 @@
 //! The two phases of a pass, over lists of logic values.
 
 ghost use Rattle.std.specs.Prelude.{◌≡◌, ◌≢◌, ℕ, ◌<◌, not, length, slice_index, slice_index_or, IfOk, All, map};
-ghost use Rattle.gate_net.specs.Sound.{AreNets, AreApart, IsGate, driven_nets};
-ghost use Rattle.logic_tables.specs.Fold.{fold_of};
-ghost use Rattle.logic_tables.specs.declared.kinds.FoldKind.TheVariants.{Nand};
+ghost use Rattle.gate_net.specs.Sound.{IsSound, AreNets, AreApart, IsGate, driven_nets};
 ghost use Rattle.machine.specs.Pass.{no_gate};
-ghost use Rattle.machine.specs.Shown.{logic_at, next_value, same_logic, SaysDue};
+ghost use Rattle.machine.specs.Shown.{values_from, HaveSizes, ArePassed, logic_at, next_value, same_logic, SaysDue};
 
-use gate_net::Gate;
+use gate_net::{Gate, Netlist};
 use level_range::Logic;
+use logic_tables::{FoldKind, fold_gate};
 use std::alloc::AllocError;
-
-fn nand(pins: &[Logic]) -> Logic
-    requires { 0 < length pins.now }
-    ensures { result ≡ fold_of Nand pins.now }
-{
-    let mut any_x = false;
-    for pin in pins {
-        match pin {
-            Logic::Zero => return Logic::One,
-            Logic::One => {}
-            Logic::X | Logic::Z => any_x = true,
-        }
-    }
-    if any_x { Logic::X } else { Logic::Zero }
-}
 
 /// Each input in force drives its net.
 pub fn drive_inputs(nets: &[u32], forced: &[Logic], seen: &mut [Logic])
@@ -65,7 +49,7 @@ pub fn target_of(gate: &Gate, seen: &[Logic], pins: &mut Vec<Logic>) -> Result<L
     for net in gate.inputs.as_slice() {
         pins.push(seen[*net as usize])?;
     }
-    Ok(nand(pins.as_slice()))
+    Ok(fold_gate(FoldKind::Nand, pins.as_slice()))
 }
 
 /// Whether two values differ.
@@ -97,5 +81,26 @@ pub fn evaluate(
             due = true;
         }
     }
+    Ok(due)
+}
+
+/// One pass over the values. The answer says whether something is due then.
+pub fn pass_over(
+    netlist: &Netlist,
+    outs: &mut [Logic],
+    targets: &mut [Logic],
+    seen: &mut [Logic],
+    forced: &[Logic],
+    pins: &mut Vec<Logic>,
+) -> Result<bool, AllocError>
+    requires sound { IsSound netlist.now }
+    requires sizes { HaveSizes netlist.now (values_from outs.old targets.old seen.old forced.now) }
+    ensures passed { IfOk result (λ due. ArePassed netlist.now (values_from outs.old targets.old seen.old forced.now) (values_from outs.new targets.new seen.new forced.now)) }
+    ensures due { IfOk result (λ due. SaysDue due outs.new targets.new (length netlist.now.gates)) }
+{
+    let gates = netlist.gates.as_slice();
+    drive_inputs(netlist.inputs.as_slice(), forced, seen);
+    drive_outputs(gates, outs, targets, seen);
+    let due = evaluate(gates, outs, seen, targets, pins)?;
     Ok(due)
 }

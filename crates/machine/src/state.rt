@@ -1,6 +1,15 @@
 //! The machine of a plain run.
 
-use crate::phases::{drive_inputs, drive_outputs, evaluate};
+ghost use Rattle.std.specs.Prelude.{◌≡◌, ℕ, ◌<◌, replicate, length, IfOk};
+ghost use Rattle.level_range.specs.declared.range.Logic.TheVariants.{X, Z};
+ghost use Rattle.gate_net.specs.Sound.{IsSound};
+ghost use Rattle.machine.specs.Machine.{Machine};
+ghost use Rattle.machine.specs.Pass.{is_due, pass};
+ghost use Rattle.machine.specs.Run.{step};
+ghost use Rattle.machine.specs.Shown.{AreShown, HaveSizes};
+ghost use Rattle.machine.specs.StateValues.{values_of};
+
+use crate::phases::pass_over;
 use gate_net::Netlist;
 use level_range::Logic;
 use std::alloc::{AllocError, Global};
@@ -22,7 +31,12 @@ pub struct State {
 
 impl State {
     /// The machine before its first pass.
-    pub fn start(alloc: Global, netlist: &Netlist) -> Result<State, AllocError> {
+    pub fn start(alloc: Global, netlist: &Netlist) -> Result<State, AllocError>
+        ensures outs { IfOk result (λ s. s.outs.items ≡ replicate (length netlist.now.gates) X) }
+        ensures targets { IfOk result (λ s. s.targets.items ≡ replicate (length netlist.now.gates) X) }
+        ensures seen { IfOk result (λ s. s.seen.items ≡ replicate (length netlist.now.names) Z) }
+        ensures forced { IfOk result (λ s. s.forced.items ≡ replicate (length netlist.now.inputs) Z) }
+    {
         let gates = netlist.gates.as_slice().len();
         let nets = netlist.names.as_slice().len();
         let inputs = netlist.inputs.as_slice().len();
@@ -36,30 +50,35 @@ impl State {
     }
 
     /// One pass. The answer says whether something is due then.
-    pub fn pass(&mut self, netlist: &Netlist) -> Result<bool, AllocError> {
-        let gates = netlist.gates.as_slice();
-        drive_inputs(
-            netlist.inputs.as_slice(),
-            self.forced.as_slice(),
-            self.seen.as_mut_slice(),
-        );
-        drive_outputs(
-            gates,
+    pub fn pass(&mut self, netlist: &Netlist) -> Result<bool, AllocError>
+        requires sound { IsSound netlist.now }
+        requires sizes { HaveSizes netlist.now (values_of self.old) }
+        ensures sizes { IfOk result (λ due. HaveSizes netlist.now (values_of self.new)) }
+        ensures forced { self.new.forced.items ≡ self.old.forced.items }
+        ensures shown { IfOk result (λ due. (m : Machine) → AreShown netlist.now (values_of self.old) m → AreShown netlist.now (values_of self.new) (pass netlist.now m)) }
+        ensures due { IfOk result (λ due. (m : Machine) → AreShown netlist.now (values_of self.old) m → is_due (pass netlist.now m) ≡ due) }
+    {
+        let due = pass_over(
+            netlist,
             self.outs.as_mut_slice(),
-            self.targets.as_slice(),
-            self.seen.as_mut_slice(),
-        );
-        evaluate(
-            gates,
-            self.outs.as_slice(),
-            self.seen.as_slice(),
             self.targets.as_mut_slice(),
+            self.seen.as_mut_slice(),
+            self.forced.as_slice(),
             &mut self.pins,
-        )
+        )?;
+        Ok(due)
     }
 
     /// A time step: passes while something is due, up to the limit. The answer says whether something is due then.
-    pub fn step(&mut self, netlist: &Netlist, limit: u32) -> Result<bool, AllocError> {
+    pub fn step(&mut self, netlist: &Netlist, limit: u32) -> Result<bool, AllocError>
+        requires sound { IsSound netlist.now }
+        requires sizes { HaveSizes netlist.now (values_of self.old) }
+        requires limit { 0 < limit }
+        ensures sizes { IfOk result (λ due. HaveSizes netlist.now (values_of self.new)) }
+        ensures forced { self.new.forced.items ≡ self.old.forced.items }
+        ensures shown { IfOk result (λ due. (m : Machine) → AreShown netlist.now (values_of self.old) m → AreShown netlist.now (values_of self.new) (step limit netlist.now m)) }
+        ensures due { IfOk result (λ due. (m : Machine) → AreShown netlist.now (values_of self.old) m → is_due (step limit netlist.now m) ≡ due) }
+    {
         let mut due = self.pass(netlist)?;
         let mut left = limit - 1;
         while due && left > 0 {

@@ -11,7 +11,7 @@ pub loop-k-preserved : goal.loop-k-preserved
 loop-k-preserved c =
     let h : c.loop-k.k < length c.args.gates.now = omega arith in
     let h-targets : c.loop-k.k < length c.loop-k.targets = omega arith in
-    let value = c.in_ok-target.ensures tt ∙ ap (λ (g : Gate). next_value g c.args.seen.now) (get_or_read c.args.gates.now c.loop-k.k _ h c.index-gates-k.is no_gate) in
+    let value = c.in_ok-target.ensures ∙ ap (λ (g : Gate). next_value g c.args.seen.now) (get_or_read c.args.gates.now c.loop-k.k _ h c.index-gates-k.is no_gate) in
     let out = get_or_default c.args.outs.now c.loop-k.k _ _ (omega arith) in
     record {
       targets = targets_more c.args.gates.now c.args.seen.now c.loop-k.targets c.loop-k.k c.in_ok-target.target h-targets value c.loop-k.invariant.targets;
