@@ -4,3 +4,5 @@ pub mod PassLemmas
 pub mod Writes
 pub mod StepLemmas
 pub mod TraceLemmas
+pub mod RunLemmas
+pub mod RunState

@@ -37,7 +37,7 @@ matured_element now out target = matured_by now out target (same_logic out targe
 evaluated_element : (now : ℕ) (gate : Gate) (nets : List NetState) (out next : Logic) → target_of gate nets ≡ strong next → evaluated now gate nets (settled_element out) ≡ element_of now out next
 evaluated_element now gate nets out next e = rw (e, same_signal-strong out next) refl
 
-ne-eqb : (a b : ℕ) → a ≢ b → eqb a b ≡ false
+pub ne-eqb : (a b : ℕ) → a ≢ b → eqb a b ≡ false
 ne-eqb a b ne = elim (eqb_tells a b) [
     | inl same ↦ absurd (ne same.1)
     | inr differs ↦ differs.0
@@ -174,7 +174,7 @@ module _ (netlist : Netlist) (sound : IsSound netlist) (old new : Values) (m : M
 
 -- ---- what is due
 
-due_element : (now : ℕ) (out target : Logic) (b : Bool) → same_logic out target ≡ b → is_due_at now (element_of now out target).due ≡ not b
+pub due_element : (now : ℕ) (out target : Logic) (b : Bool) → same_logic out target ≡ b → is_due_at now (element_of now out target).due ≡ not b
 due_element now out target true e = rw e refl
 due_element now out target false e = rw e (le-leb now now (omega arith))
 

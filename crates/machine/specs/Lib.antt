@@ -5,3 +5,5 @@ pub mod Trace
 pub mod Shown
 pub mod StateValues
 pub mod PrintedPlaces
+pub mod Places
+pub mod Progress

@@ -19,6 +19,10 @@ pub record Values : Type 0 where
 abbrev pub values_from : List Logic → List Logic → List Logic → List Logic → Values
 values_from outs targets seen forced = record { outs = outs; targets = targets; seen = seen; forced = forced }
 
+-- other values in force
+abbrev pub with_forced : Values → List Logic → Values
+with_forced values forced = values_from values.outs values.targets values.seen forced
+
 abbrev pub logic_at : List Logic → ℕ → Logic
 logic_at values k = slice_index_or values k X
 

@@ -2,9 +2,10 @@
 //! and the plain run of a netlist of nand gates.
 #![tactic(auto)]
 
+mod force;
 mod phases;
 mod run;
 mod state;
 mod trace;
 
-pub use run::{Course, simulate};
+pub use run::{Simulated, simulate};

@@ -1,14 +1,16 @@
 //! The machine of a plain run.
 
-ghost use Rattle.std.specs.Prelude.{◌≡◌, ℕ, ◌<◌, replicate, length, IfOk};
+ghost use Rattle.std.specs.Prelude.{◌≡◌, ℕ, ◌<◌, replicate, length, map, IfOk};
 ghost use Rattle.level_range.specs.declared.range.Logic.TheVariants.{X, Z};
 ghost use Rattle.gate_net.specs.Sound.{IsSound};
 ghost use Rattle.machine.specs.Machine.{Machine};
 ghost use Rattle.machine.specs.Pass.{is_due, pass};
 ghost use Rattle.machine.specs.Run.{step};
-ghost use Rattle.machine.specs.Shown.{AreShown, HaveSizes};
+ghost use Rattle.machine.specs.Shown.{AreShown, HaveSizes, with_forced};
+ghost use Rattle.machine.specs.Places.{placed_value};
 ghost use Rattle.machine.specs.StateValues.{values_of};
 
+use crate::force::force;
 use crate::phases::pass_over;
 use gate_net::Netlist;
 use level_range::Logic;
@@ -85,6 +87,30 @@ impl State {
             due = self.pass(netlist)?;
             left -= 1;
         }
+        Ok(due)
+    }
+
+    /// A time step with other values in force, one for each input of the netlist: z where it has no place, x where
+    /// no value came yet.
+    pub fn step_with(
+        &mut self,
+        netlist: &Netlist,
+        places: &[Option<usize>],
+        values: &[Logic],
+        limit: u32,
+    ) -> Result<bool, AllocError>
+        requires sound { IsSound netlist.now }
+        requires sizes { HaveSizes netlist.now (values_of self.old) }
+        requires places { length places.now ≡ length netlist.now.inputs }
+        requires limit { 0 < limit }
+        ensures sizes { IfOk result (λ due. HaveSizes netlist.now (values_of self.new)) }
+        ensures shown { IfOk result (λ due. (m : Machine) → AreShown netlist.now (with_forced (values_of self.old) (map (placed_value values.now) places.now)) m
+            → AreShown netlist.now (values_of self.new) (step limit netlist.now m)) }
+        ensures due { IfOk result (λ due. (m : Machine) → AreShown netlist.now (with_forced (values_of self.old) (map (placed_value values.now) places.now)) m
+            → is_due (step limit netlist.now m) ≡ due) }
+    {
+        force(places, values, self.forced.as_mut_slice());
+        let due = self.step(netlist, limit)?;
         Ok(due)
     }
 }
