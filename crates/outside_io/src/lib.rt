@@ -1,0 +1,11 @@
+//! The world outside the program: files that are read, streams that are written, and the gate
+//! that workers pass.
+#![tactic(auto)]
+
+mod lists;
+mod outside;
+mod whole;
+
+pub use lists::{Bytes, CallList, NamedFile, NamedFileList};
+pub use outside::{Failed, Gate, Shelf, Sink};
+pub use whole::{PutFault, TakeFault, read_whole, write_whole};
