@@ -3,9 +3,11 @@
 #![tactic(auto)]
 
 mod lists;
+mod memory_shelf;
 mod outside;
 mod whole;
 
 pub use lists::{Bytes, CallList, NamedFile, NamedFileList};
+pub use memory_shelf::MemoryShelf;
 pub use outside::{Failed, Gate, Shelf, Sink};
 pub use whole::{PutFault, TakeFault, read_whole, write_whole};

@@ -1,4 +1,4 @@
-ghost use Rattle.std.specs.Prelude.{◌≡◌, ◌+◌, ◌^◌, ◌<◌, ◌≤◌, ◌⊎◌, ◌++◌, ℕ, List, [], length, Some, Ok, IfOk, OnOk, OnErr, IfSome, IsOk, vec_len};
+ghost use Rattle.std.specs.Prelude.{◌≡◌, ◌+◌, ◌^◌, ◌<◌, ◌≤◌, ◌⊎◌, ◌++◌, ℕ, List, [], length, Some, None, Ok, IfOk, OnOk, OnErr, IfSome, IsSomeAnd, IsOk, vec_len};
 ghost use Rattle.outside_io.specs.Outside.{Rose, Gains, GainsPrefix, Gives, bytes_of};
 ghost use Rattle.outside_io.specs.Answers.{OnRead, OnTooLong, OnMemory, UnlessRead};
 
@@ -55,11 +55,12 @@ pub fn read_whole<F: Shelf>(
     ensures read_rose { OnRead result (Rose (F.faults shelf.old) (F.faults shelf.new)) }
     ensures read_blames { OnRead result (F.blamed shelf.new ≡ name.now) }
     ensures read_given { OnRead result (F.given shelf.new ≤ limit) }
+    ensures read_closed { OnRead result (F.named shelf.new ≡ None) }
 
     // TooLong: one byte more than the limit was taken.
     ensures too_long_given { OnTooLong result (F.given shelf.new ≡ limit + 1) }
     ensures too_long_opened { OnTooLong result (F.named shelf.new ≡ Some name.now) }
-    ensures too_long { OnTooLong result (IfSome (F.files shelf.old) (λ told. IfSome (told name.now) (λ bytes. limit < length bytes))) }
+    ensures too_long { OnTooLong result (IfSome (F.files shelf.old) (λ told. IsSomeAnd (told name.now) (λ bytes. limit < length bytes))) }
 
     // Memory: before the shelf was asked, or in the middle of this file.
     ensures memory_given { OnMemory result ((shelf.new ≡ shelf.old) ⊎ (F.given shelf.new ≤ limit)) }
@@ -108,6 +109,7 @@ fn take_piece<F: Shelf>(
     ensures read_rose { OnRead result (Rose (F.faults shelf.old) (F.faults shelf.new)) }
     ensures read_blames { OnRead result (F.named shelf.old ≡ Some (F.blamed shelf.new)) }
     ensures read_given { OnRead result (F.given shelf.new ≡ F.given shelf.old) }
+    ensures read_closed { OnRead result (F.named shelf.new ≡ None) }
     ensures too_long_given { OnTooLong result (F.given shelf.new ≡ limit + 1) }
     ensures too_long { OnTooLong result (IfSome (F.rest shelf.old) (λ left. limit < vec_len bytes.old + length left)) }
     ensures memory_given { OnMemory result (F.given shelf.new ≤ limit) }

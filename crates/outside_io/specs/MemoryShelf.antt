@@ -1,0 +1,60 @@
+-- A shelf in memory, as contracts see it, and what its calls leave.
+use Rattle.std.specs.Prelude.{◌≡◌, ℕ, ◌+◌, ◌-◌, ◌^◌, ◌<◌, ◌≤◌, min, Bool, true, not, ◌&&◌, List, [], take, drop, length, Option, None, Some, is_some, IfSome, refl}
+use Rattle.std.specs.String.{string_bytes}
+use Rattle.std.specs.List.{slice_get}
+use Rattle.outside_io.specs.Files.{file_of, is_listed}
+use Rattle.outside_io.specs.declared.lists.NamedFile.{NamedFile}
+
+-- an open file: its name, and what is left of it
+pub record OpenText : Type 0 where
+  pub name : List ℕ
+  pub left : List ℕ
+
+-- files, the calls that fail, how many calls there were, the open file, and what `Shelf` counts
+pub record ShelfState : Type 0 where
+  pub files : List NamedFile
+  pub fails : List ℕ
+  pub calls : ℕ
+  pub opened : Option OpenText
+  pub faults : ℕ
+  pub blamed : List ℕ
+  pub given : ℕ
+
+-- the name of the open file
+abbrev pub open_name : Option OpenText → Option (List ℕ)
+open_name None = None
+open_name (Some file) = Some file.name
+
+-- what is left of the open file
+abbrev pub open_left : Option OpenText → List ℕ
+open_left None = []
+open_left (Some file) = file.left
+
+-- one more, up to the last value of a count
+abbrev pub one_more : ℕ → ℕ
+one_more n = min (n + 1) (2 ^ 64 - 1)
+
+-- after the count of one more call
+abbrev pub counted : ShelfState → ShelfState
+counted s = record s { calls = one_more s.calls }
+
+-- whether the next call is one that fails
+abbrev pub is_failing : ShelfState → Bool
+is_failing s = is_listed s.fails s.calls
+
+-- after a call that failed, with the name that is blamed
+abbrev pub failed : ShelfState → List ℕ → ShelfState
+failed s name = record s { opened = None; faults = one_more s.faults; blamed = name }
+
+-- whether an `open` of this name is answered Ok
+abbrev pub opens : ShelfState → List ℕ → Bool
+opens s name = not (is_failing s) && is_some (file_of s.files name)
+
+-- with this file open
+abbrev pub with_open : ShelfState → List ℕ → List ℕ → ShelfState
+with_open s name left = record s { opened = Some (record { name = name; left = left }) }
+
+-- where no file is open nothing is left
+pub open_left-none : (o : Option OpenText) → open_name o ≡ None → open_left o ≡ []
+open_left-none None e = refl
+open_left-none (Some file) e = cc

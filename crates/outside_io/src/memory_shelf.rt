@@ -1,0 +1,126 @@
+ghost use Rattle.std.specs.Prelude.{◌≡◌, ◌+◌, ◌-◌, ◌^◌, ◌<◌, ◌≤◌, min, [], length, take, drop, None, Some, Ok, Err, is_ok, IsOk, OnOk, OnErr, IfOk, IfSome, MatchOption, string_bytes, slice_index_or};
+ghost use Rattle.outside_io.specs.Files.{file_of, HaveDistinctNames};
+ghost use Rattle.std.specs.List.Sorted.{IsStrictlyIncreasing};
+
+use crate::lists::{CallList, NamedFile, NamedFileList};
+use crate::outside::{Failed, Shelf};
+use std::marker::Model;
+
+/// The open file of a shelf in memory: its name, its place among the files, and how many of its
+/// bytes were read.
+#[derive(Debug, Drop)]
+struct OpenFile {
+    name: String,
+    index: usize,
+    at: usize,
+}
+
+/// A shelf of files in memory, which fails at listed calls.
+///
+/// Calls of `open` and `read` are counted together, from 0. Apart from listed calls it fails only
+/// where a file is missing. Contracts see a `ShelfState`.
+#[derive(Debug, Drop)]
+pub struct MemoryShelf {
+    files: NamedFileList,
+    fails: CallList,
+    calls: u64,
+    opened: Option<OpenFile>,
+    faults: u64,
+    blamed: Option<String>,
+    given: u64,
+}
+
+impl Model for MemoryShelf {
+    ghost use Rattle.outside_io.specs.MemoryShelf.{ShelfState};
+    ghost use Rattle.outside_io.specs.MemoryFields.{open_text, blamed_text, IsOpenIn};
+
+    ghost Value = { ShelfState };
+
+    ghost view = { λ s. record { files = s.files; fails = s.fails; calls = s.calls; opened = open_text s.files s.opened; faults = s.faults; blamed = blamed_text s.blamed; given = s.given } };
+
+    ghost invariant = { λ s. IsOpenIn s.files s.opened };
+}
+
+impl MemoryShelf {
+    ghost use Rattle.outside_io.specs.MemoryShelf.{counted, is_failing, failed};
+
+    /// A shelf of these files, on the condition that their names are distinct and that the
+    /// numbers of the calls that fail rise.
+    pub fn new(files: NamedFileList, fails: CallList) -> MemoryShelf
+        requires distinct { HaveDistinctNames files }
+        requires rising { IsStrictlyIncreasing fails }
+        ensures { result ≡ record { files = files; fails = fails; calls = 0; opened = None; faults = 0; blamed = []; given = 0 } }
+    {
+        MemoryShelf {
+            files,
+            fails,
+            calls: 0,
+            opened: None,
+            faults: 0,
+            blamed: None,
+            given: 0,
+        }
+    }
+
+    /// How many calls of `open` and `read` there were; it stands still at 2^64 - 1.
+    pub fn calls(&self) -> u64
+        ensures { result ≡ self.now.calls }
+    {
+        self.calls
+    }
+
+    /// How many faults were counted.
+    pub fn faults(&self) -> u64
+        ensures { result ≡ self.now.faults }
+    {
+        self.faults
+    }
+
+    /// How many bytes were read since the last `open`.
+    pub fn given(&self) -> u64
+        ensures { result ≡ self.now.given }
+    {
+        self.given
+    }
+
+    /// The name at the last fault, and empty before the first.
+    pub fn blamed(&self) -> &str
+        ensures { result.now ≡ self.now.blamed }
+    {
+        match &self.blamed {
+            Some(name) => name.as_str(),
+            None => "",
+        }
+    }
+
+    /// Counts a call, and answers whether it is one that fails.
+    fn count_call(&mut self) -> bool
+        ensures fails { result ≡ is_failing self.old }
+        ensures counted { self.new ≡ counted self.old }
+    {
+        let fails = self.fails.as_slice().contains(&self.calls);
+        self.calls = self.calls.saturating_add(1);
+        fails
+    }
+
+    /// Counts a fault, blames the name and closes the open file.
+    fn fail(&mut self, name: String)
+        ensures { self.new ≡ failed self.old (string_bytes name) }
+    {
+        self.opened = None;
+        self.faults = self.faults.saturating_add(1);
+        self.blamed = Some(name);
+    }
+}
+
+/// The place of the file of this name, where there is one.
+fn place_of(files: &[NamedFile], name: &[u8]) -> Option<usize>
+    ensures { MatchOption result (file_of files.now name.now ≡ None) (λ i. (i < length files.now) × ((d : _) → file_of files.now name.now ≡ Some (slice_index_or files.now i d).bytes)) }
+{
+    for (i, file) in files.iter().enumerate() {
+        if file.name.as_slice() == name {
+            return Some(i);
+        }
+    }
+    None
+}
