@@ -1,5 +1,5 @@
 -- A shelf in memory, as contracts see it, and what its calls leave.
-use Rattle.std.specs.Prelude.{◌≡◌, ℕ, ◌+◌, ◌-◌, ◌^◌, ◌<◌, ◌≤◌, min, Bool, true, not, ◌&&◌, List, [], take, drop, length, Option, None, Some, is_some, IfSome, refl}
+use Rattle.std.specs.Prelude.{◌≡◌, ℕ, ◌+◌, ◌-◌, ◌^◌, ◌<◌, ◌≤◌, min, Bool, true, not, ◌&&◌, ◌||◌, is_none, List, [], take, drop, length, Option, None, Some, is_some, IfSome, refl}
 use Rattle.std.specs.String.{string_bytes}
 use Rattle.std.specs.List.{slice_get}
 use Rattle.outside_io.specs.Files.{file_of, is_listed}
@@ -42,17 +42,34 @@ counted s = record s { calls = one_more s.calls }
 abbrev pub is_failing : ShelfState → Bool
 is_failing s = is_listed s.fails s.calls
 
--- after a call that failed, with the name that is blamed
-abbrev pub failed : ShelfState → List ℕ → ShelfState
-failed s name = record s { opened = None; faults = one_more s.faults; blamed = name }
+-- with one more fault, the blamed name, and no file open
+abbrev pub with_fault : ShelfState → List ℕ → ShelfState
+with_fault s name = record s { opened = None; faults = one_more s.faults; blamed = name }
 
--- whether an `open` of this name is answered Ok
+-- after a call that failed, with the name that is blamed
+abbrev pub after_failed : ShelfState → List ℕ → ShelfState
+after_failed s name = with_fault (counted s) name
+
+-- whether an `open` of this name is answered Ok: the call isn't listed, and the file is there
 abbrev pub opens : ShelfState → List ℕ → Bool
 opens s name = not (is_failing s) && is_some (file_of s.files name)
 
--- with this file open
-abbrev pub with_open : ShelfState → List ℕ → List ℕ → ShelfState
-with_open s name left = record s { opened = Some (record { name = name; left = left }) }
+-- after an `open` of a file of these bytes
+abbrev pub after_open : ShelfState → List ℕ → List ℕ → ShelfState
+after_open s name bytes = record (counted s) { opened = Some (record { name = name; left = bytes }); given = 0 }
+
+-- whether a `read` is answered Ok: no file is open, or the call isn't listed
+abbrev pub reads : ShelfState → Bool
+reads s = is_none s.opened || not (is_failing s)
+
+-- an open file after a read of n bytes
+abbrev pub read_on : ℕ → Option OpenText → Option OpenText
+read_on n None = None
+read_on n (Some file) = Some (record { name = file.name; left = drop n file.left })
+
+-- after a `read` of n bytes
+abbrev pub after_read : ShelfState → ℕ → ShelfState
+after_read s n = record (counted s) { opened = read_on n s.opened; given = min (s.given + n) (2 ^ 64 - 1) }
 
 -- where no file is open nothing is left
 pub open_left-none : (o : Option OpenText) → open_name o ≡ None → open_left o ≡ []
