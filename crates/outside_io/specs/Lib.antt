@@ -4,3 +4,4 @@ pub mod Files
 pub mod MemoryShelf
 pub mod MemoryFields
 pub mod MemorySink
+pub mod Edge

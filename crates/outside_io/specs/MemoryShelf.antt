@@ -3,6 +3,7 @@ use Rattle.std.specs.Prelude.{◌≡◌, ℕ, ◌+◌, ◌-◌, ◌^◌, ◌<◌
 use Rattle.std.specs.String.{string_bytes}
 use Rattle.std.specs.List.{slice_get}
 use Rattle.outside_io.specs.Files.{file_of, is_listed}
+use Rattle.outside_io.specs.Outside.{one_more}
 use Rattle.outside_io.specs.declared.lists.NamedFile.{NamedFile}
 
 -- an open file: its name, and what is left of it
@@ -29,10 +30,6 @@ open_name (Some file) = Some file.name
 abbrev pub open_left : Option OpenText → List ℕ
 open_left None = []
 open_left (Some file) = file.left
-
--- one more, up to the last value of a count
-abbrev pub one_more : ℕ → ℕ
-one_more n = min (n + 1) (2 ^ 64 - 1)
 
 -- after the count of one more call
 abbrev pub counted : ShelfState → ShelfState

@@ -1,9 +1,13 @@
 -- What a call on the outside does to counts, to what is told of a file, and to what is told of a sink.
-use Rattle.std.specs.Prelude.{◌≡◌, ℕ, ◌+◌, ◌-◌, ◌^◌, ◌<◌, List, ◌++◌, take, Option, None, Some, ◌⊎◌}
+use Rattle.std.specs.Prelude.{◌≡◌, ℕ, ◌+◌, ◌-◌, ◌^◌, ◌<◌, min, List, ◌++◌, take, Option, None, Some, ◌⊎◌}
 
 -- the count is greater than before, or at its last value
 abbrev pub Rose : ℕ → ℕ → Type 0
 Rose old new = (old < new) ⊎ (new ≡ 2 ^ 64 - 1)
+
+-- one more, up to the last value of a count
+abbrev pub one_more : ℕ → ℕ
+one_more n = min (n + 1) (2 ^ 64 - 1)
 
 -- what is told, with a text at its end
 abbrev pub told_with : Option (List ℕ) → List ℕ → Option (List ℕ)

@@ -2,12 +2,16 @@
 //! that workers pass.
 #![tactic(auto)]
 
+mod edge;
 mod lists;
 mod memory_shelf;
+mod memory_sink;
 mod outside;
 mod whole;
 
+pub use edge::{FileShelf, OpenGate, StreamSink};
 pub use lists::{Bytes, CallList, NamedFile, NamedFileList};
 pub use memory_shelf::MemoryShelf;
+pub use memory_sink::MemorySink;
 pub use outside::{Failed, Gate, Shelf, Sink};
 pub use whole::{PutFault, TakeFault, read_whole, write_whole};
