@@ -16,4 +16,3 @@ file_of (file ∷ files) name = if bytes_eq file.name name then Some file.bytes 
 -- whether a call is in the list
 abbrev pub is_listed : List ℕ → ℕ → Bool
 is_listed calls call = list_any (λ listed. listed == call) calls
-

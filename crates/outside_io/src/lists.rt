@@ -1,4 +1,6 @@
-ghost use Rattle.std.specs.Prelude.{◌≡◌};
+ghost use Rattle.std.specs.Prelude.{◌≡◌, ◌↔◌, Any, IsTrue};
+ghost use Rattle.std.specs.List.Sorted.{IsStrictlyIncreasing};
+ghost use Rattle.outside_io.specs.Files.{HaveDistinctNames};
 
 use std::marker::Model;
 
@@ -82,6 +84,32 @@ impl NamedFileList {
     {
         self.files.as_slice()
     }
+
+    /// Whether no two files have one name.
+    pub fn has_distinct_names(&self) -> bool
+        ensures { IsTrue result ↔ HaveDistinctNames self.now }
+    {
+        are_distinct(self.files.as_slice())
+    }
+}
+
+/// Whether no two files have one name.
+fn are_distinct(files: &[NamedFile]) -> bool
+    ensures { IsTrue result ↔ HaveDistinctNames files.now }
+{
+    for (i, file) in files.iter().enumerate() {
+        if has_name(&files[i + 1..], file.name.as_slice()) {
+            return false;
+        }
+    }
+    true
+}
+
+/// Whether a file has this name.
+fn has_name(files: &[NamedFile], name: &[u8]) -> bool
+    ensures { IsTrue result ↔ Any (λ file. file.name ≡ name.now) files.now }
+{
+    files.iter().any(|file| file.name.as_slice() == name)
 }
 
 /// Numbers of calls, counted from 0. Contracts see the list of them.
@@ -119,4 +147,18 @@ impl CallList {
     {
         self.calls.as_slice()
     }
+
+    /// Whether each number is below the next.
+    pub fn is_rising(&self) -> bool
+        ensures { IsTrue result ↔ IsStrictlyIncreasing self.now }
+    {
+        rises(self.calls.as_slice())
+    }
+}
+
+/// Whether each number is below the next.
+fn rises(calls: &[u64]) -> bool
+    ensures { IsTrue result ↔ IsStrictlyIncreasing calls.now }
+{
+    calls.windows(2).all(|pair| pair[0] < pair[1])
 }

@@ -63,7 +63,7 @@ pub fn read_whole<F: Shelf>(
     ensures too_long { OnTooLong result (IfSome (F.files shelf.old) (λ told. IsSomeAnd (told name.now) (λ bytes. limit < length bytes))) }
 
     // Memory: before the shelf was asked, or in the middle of this file.
-    ensures memory_given { OnMemory result ((shelf.new ≡ shelf.old) ⊎ (F.given shelf.new ≤ limit)) }
+    ensures memory { OnMemory result ((shelf.new ≡ shelf.old) ⊎ ((F.named shelf.new ≡ Some name.now) × (F.given shelf.new ≤ limit))) }
 
     // No other answer than Read comes with a fault.
     ensures quiet { UnlessRead result (F.faults shelf.new ≡ F.faults shelf.old) }

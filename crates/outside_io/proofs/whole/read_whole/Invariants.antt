@@ -11,7 +11,7 @@ invariant-loop-bytes g l = record {
   opened : g.F.Shelf.named l.shelf ≡ Some l.name;
   within : vec_len l.bytes ≤ l.limit;
   taken : g.F.Shelf.given l.shelf ≡ vec_len l.bytes;
-  begun : bytes_of (g.F.Shelf.files l.fn.shelf) l.name ≡ told_after l.bytes.items (g.F.Shelf.rest l.shelf)
+  begun : bytes_of (g.F.Shelf.files l.fn.shelf) l.name ≡ told_after l.bytes.items (g.F.Shelf.rest l.shelf);
 }
 
 abbrev pub decreases-loop-bytes : goal.decreases-loop-bytes

@@ -8,5 +8,5 @@ pub loop-at-preserved : goal.loop-at-preserved
 loop-at-preserved g c = record {
   within = search rules;
   quiet = search rules;
-  gained = Gains-take-add _ _ _ _ _ _ _ (grind (arith, common_steps)) c.loop-at.invariant.gained c.in-Ok.ensures.appends
+  gained = Gains-take-add _ _ _ _ _ _ _ (grind (arith, common_steps)) c.loop-at.invariant.gained c.in-Ok.ensures.appends;
 }

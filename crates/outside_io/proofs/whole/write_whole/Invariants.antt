@@ -7,7 +7,7 @@ abbrev pub invariant-loop-at : goal.invariant-loop-at
 invariant-loop-at g l = record {
   within : l.at ≤ length l.bytes;
   quiet : g.O.Sink.faults l.sink ≡ g.O.Sink.faults l.fn.sink;
-  gained : Gains (g.O.Sink.written l.fn.sink) (g.O.Sink.written l.sink) (take l.at l.bytes)
+  gained : Gains (g.O.Sink.written l.fn.sink) (g.O.Sink.written l.sink) (take l.at l.bytes);
 }
 
 abbrev pub decreases-loop-at : goal.decreases-loop-at
