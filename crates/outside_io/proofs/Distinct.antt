@@ -1,5 +1,5 @@
 -- Files with distinct names, one file at a time.
-use Rattle.std.proofs.Common.{◌≡◌, ℕ, ◌+◌, ◌-◌, ◌<◌, ◌≤◌, List, length, drop, get_or, Any, ap, ◌∙◌, arith, length-drop, inl, inr}
+use Rattle.std.proofs.Common.{◌≡◌, ℕ, ◌+◌, ◌-◌, ◌<◌, List, length, drop, get_or, Any, ap, ◌∙◌, arith, length-drop, inl, inr}
 use Rattle.std.proofs.lemmas.List.{get_or-drop, get_or_default}
 use Rattle.std.proofs.lemmas.Bool.{cases_lt}
 use Rattle.outside_io.specs.Files.{HaveDistinctNames}

@@ -1,5 +1,5 @@
 -- What is told, after one more piece.
-use Rattle.std.proofs.Common.{◌≡◌, ℕ, ◌+◌, ◌≤◌, List, ◌++◌, length, take, drop, Option, None, Some, refl, ap, append_assoc, arith}
+use Rattle.std.proofs.Common.{◌≡◌, ℕ, ◌+◌, List, ◌++◌, take, drop, Option, None, Some, refl, ap, append_assoc}
 use Rattle.std.proofs.Math.Seq.{take-add}
 use Rattle.outside_io.specs.Outside.{told_with, Gains}
 

@@ -1,7 +1,5 @@
 -- A shelf in memory, as contracts see it, and what its calls leave.
-use Rattle.std.specs.Prelude.{◌≡◌, ℕ, ◌+◌, ◌-◌, ◌^◌, ◌<◌, ◌≤◌, min, Bool, true, not, ◌&&◌, ◌||◌, is_none, List, [], take, drop, length, Option, None, Some, is_some, IfSome, refl}
-use Rattle.std.specs.String.{string_bytes}
-use Rattle.std.specs.List.{slice_get}
+use Rattle.std.specs.Prelude.{◌≡◌, ℕ, ◌+◌, ◌-◌, ◌^◌, min, Bool, not, ◌&&◌, ◌||◌, is_none, List, [], drop, Option, None, Some, is_some, refl}
 use Rattle.outside_io.specs.Files.{file_of, is_listed}
 use Rattle.outside_io.specs.Outside.{one_more}
 use Rattle.outside_io.specs.declared.lists.NamedFile.{NamedFile}

@@ -1,5 +1,6 @@
 -- What a call on the outside does to counts, to what is told of a file, and to what is told of a sink.
-use Rattle.std.specs.Prelude.{◌≡◌, ℕ, ◌+◌, ◌-◌, ◌^◌, ◌<◌, min, List, ◌++◌, take, Option, None, Some, ◌⊎◌}
+use Rattle.std.specs.Prelude.{◌≡◌, ℕ, ◌+◌, ◌-◌, ◌^◌, ◌<◌, min, List, [], ◌++◌, take, Option, None, Some, ◌⊎◌, String, string_bytes}
+use Rattle.std.specs.declared.alloc.Global.{Global}
 
 -- the count is greater than before, or at its last value
 abbrev pub Rose : ℕ → ℕ → Type 0
@@ -35,3 +36,8 @@ Gives old new bytes = old ≡ told_after bytes new
 abbrev pub bytes_of : Option (List ℕ → Option (List ℕ)) → List ℕ → Option (List ℕ)
 bytes_of None name = None
 bytes_of (Some files) name = files name
+
+-- the name that a shelf keeps as the blamed one, empty where it keeps none
+abbrev pub blamed_text : Option (String Global) → List ℕ
+blamed_text None = []
+blamed_text (Some name) = string_bytes name

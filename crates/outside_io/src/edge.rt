@@ -29,7 +29,7 @@ pub struct FileShelf<R: Files + Drop> {
 
 impl<R: Files + Drop> Model for FileShelf<R> {
     ghost use Rattle.outside_io.specs.Edge.{EdgeState, opened_name};
-    ghost use Rattle.outside_io.specs.MemoryFields.{blamed_text};
+    ghost use Rattle.outside_io.specs.Outside.{blamed_text};
 
     ghost Value = { EdgeState };
 
@@ -64,6 +64,16 @@ impl<R: Files + Drop> FileShelf<R> {
         self.given
     }
 
+    /// The name at the last fault, and empty before the first.
+    pub fn blamed(&self) -> &str
+        ensures { result.now ≡ self.now.blamed }
+    {
+        match &self.blamed {
+            Some(name) => name.as_str(),
+            None => "",
+        }
+    }
+
     /// Counts a fault, and blames the name.
     fn fail(&mut self, name: String)
         ensures { self.new ≡ record self.old { named = None; faults = one_more self.old.faults; blamed = string_bytes name } }
@@ -92,6 +102,7 @@ impl<R: Files + Drop> Shelf for FileShelf<R> {
     ghost none_left = { λ _ _. tt };
 
     fn open(&mut self, name: String) -> Result<(), Failed> {
+        // Read here so that its range is known.
         let _faults = self.faults;
         self.given = 0;
         match fs::open(&self.rt, name.as_str()) {
@@ -107,6 +118,7 @@ impl<R: Files + Drop> Shelf for FileShelf<R> {
     }
 
     fn read(&mut self, buffer: &mut [u8]) -> Result<usize, Failed> {
+        // Read here so that their ranges are known.
         let _faults = self.faults;
         let given = self.given;
         let Some(OpenedFile { name, mut file }) = self.opened.take() else {

@@ -32,7 +32,8 @@ pub struct MemoryShelf {
 
 impl Model for MemoryShelf {
     ghost use Rattle.outside_io.specs.MemoryShelf.{ShelfState};
-    ghost use Rattle.outside_io.specs.MemoryFields.{open_text, blamed_text, IsOpenIn};
+    ghost use Rattle.outside_io.specs.MemoryFields.{open_text, IsOpenIn};
+    ghost use Rattle.outside_io.specs.Outside.{blamed_text};
 
     ghost Value = { ShelfState };
 

@@ -4,6 +4,11 @@ use std::process::Abort;
 use std::test::Fail;
 use std::{env, fs};
 
+/// Enters a gate that workers share.
+fn enter<G: Gate + Sync>(gate: &G) {
+    gate.enter(0, 0);
+}
+
 /// So many equal bytes.
 fn many(alloc: Global, byte: u8, count: usize) -> Result<Vec<u8>, AllocError> {
     vec![in alloc; byte; count]
@@ -110,6 +115,7 @@ fn real_files_and_streams_pass_bytes_on(rt: HostRuntime) -> Result<(), Fail> {
     let taken = outcome(read_whole(alloc, &mut shelf, name.as_str(), 30_000));
     assert_eq!(rt; taken, Err(TakeFault::Read));
     assert_eq!(rt; shelf.faults(), 1);
-    OpenGate.enter(0, 0);
+    assert!(rt; shelf.blamed() == name.as_str());
+    enter(&OpenGate);
     Ok(())
 }

@@ -1,5 +1,5 @@
 -- One more file was compared with all later ones.
-use Rattle.std.proofs.Common.{◌≡◌, ◌+◌, ◌-◌, List, take, drop, length, arith}
+use Rattle.std.proofs.Common.{◌+◌, ◌-◌, take, drop, length, arith}
 use Rattle.std.proofs.lemmas.Grind.{common_steps}
 use Rattle.outside_io.proofs.Distinct.{same_name, distinct_more}
 use Rattle.outside_io.proofs.lists.are_distinct.Goals as goal
