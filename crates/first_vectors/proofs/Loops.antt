@@ -1,16 +1,15 @@
 -- Values, lines and names that are read one after the other, as loops do.
-use Rattle.std.proofs.Common.{◌≡◌, ℕ, zero, suc, ◌+◌, ◌-◌, ◌<◌, ◌≤◌, Bool, true, false, cond, eqb, List, [], ◌∷◌, ◌++◌, length, drop, get_or, map, Option, Some, None, refl, sym, ap, ◌∙◌, append_assoc, arith, add-one, drop-cons, inl, inr}
+use Rattle.std.proofs.Common.{◌≡◌, ℕ, suc, ◌+◌, ◌<◌, ◌≤◌, eqb, List, [], ◌∷◌, ◌++◌, length, drop, get_or, map, Option, Some, None, refl, sym, ap, ◌∙◌, append_assoc, arith, add-one, drop-cons, inl, inr}
 use Rattle.std.proofs.lemmas.List.{append-nil, drop_all, nil_from_length}
 use Rattle.std.proofs.lemmas.Bool.{cases_Bool}
 use Rattle.std.specs.List.{onto_first}
 use Rattle.level_range.specs.declared.range.Logic.{Logic}
 use Rattle.gate_net.specs.declared.stimulus.ValueLine.{ValueLine}
-use Rattle.first_vectors.specs.declared.row.Row.{Row}
 use Rattle.first_vectors.specs.declared.row.Row.TheVariants.{Values, End}
 use Rattle.first_vectors.specs.declared.fault.VectorFault.{VectorFault}
 use Rattle.first_vectors.specs.declared.fault.VectorFault.TheVariants.{Memory, Unbuilt}
 use Rattle.first_vectors.specs.Fields.{◌>>=◌, lines_of, fields_of, table_of}
-use Rattle.first_vectors.specs.Reading.{value_of, values_of, row_of, joined, rows_of, Fails}
+use Rattle.first_vectors.specs.Reading.{value_of, values_of, row_of, rows_of, Fails}
 
 -- ---- values
 

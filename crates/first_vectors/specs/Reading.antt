@@ -1,12 +1,12 @@
 -- What a text of the first vector form says, from its first line to its last.
-use Rattle.std.specs.Prelude.{◌≡◌, ℕ, ◌+◌, Bool, true, false, ◌&&◌, List, [], ◌∷◌, ◌++◌, length, find, codes, Option, Some, None, Result, Ok, Err, nat_lt, nat_le, ◌==◌, if◌then◌else◌, slice_index_or}
+use Rattle.std.specs.Prelude.{◌≡◌, ℕ, ◌+◌, Bool, false, ◌&&◌, List, [], ◌∷◌, length, map, find, codes, Option, Some, None, Result, Ok, Err, nat_le, ◌==◌, if◌then◌else◌, slice_index_or}
 use Rattle.std.specs.Str.{bytes_eq}
-use Rattle.std.specs.List.{list_any}
 use Rattle.level_range.specs.declared.range.Logic.{Logic}
 use Rattle.level_range.specs.declared.range.Logic.TheVariants.{Zero, One}
 use Rattle.gate_net.specs.declared.netlist.Netlist.{Netlist}
 use Rattle.gate_net.specs.declared.stimulus.ValueLine.{ValueLine}
 use Rattle.gate_net.specs.declared.stimulus.Stimulus.{Stimulus}
+use Rattle.name_table.specs.Names.{is_distinct}
 use Rattle.first_vectors.specs.declared.fault.VectorFault.{VectorFault}
 use Rattle.first_vectors.specs.declared.fault.VectorFault.TheVariants.{Memory, Unbuilt}
 use Rattle.first_vectors.specs.declared.row.Row.{Row}
@@ -29,21 +29,31 @@ values_of (b ∷ bs) = do
 abbrev pub name_of : Netlist → ℕ → List ℕ
 name_of netlist net = slice_index_or netlist.names net []
 
+-- the names of the inputs, in port order
+abbrev pub input_names : Netlist → List (List ℕ)
+input_names netlist = map (name_of netlist) netlist.inputs
+
 -- the input of that name
 unfoldable pub input_named : Netlist → List ℕ → Option ℕ
-input_named netlist name = find (λ net. bytes_eq (name_of netlist net) name) netlist.inputs
+input_named netlist name = find (λ net. bytes_eq name (name_of netlist net)) netlist.inputs
 
--- the inputs of these names, none of them twice, behind those before them
-unfoldable pub inputs_after : Netlist → List ℕ → List (List ℕ) → Option (List ℕ)
-inputs_after netlist before [] = Some before
-inputs_after netlist before (name ∷ names) = do
+-- the inputs of these names
+unfoldable pub inputs_named : Netlist → List (List ℕ) → Option (List ℕ)
+inputs_named netlist [] = Some []
+inputs_named netlist (name ∷ names) = do
   net ← input_named netlist name
-  if list_any (λ other. other == net) before then None else inputs_after netlist (before ++ net ∷ []) names
+  nets ← inputs_named netlist names
+  Some (net ∷ nets)
 
--- the inputs that a line lists, one at least
+-- the inputs of one or more names, of which none stands twice
+unfoldable pub listed : Netlist → List (List ℕ) → Option (List ℕ)
+listed netlist [] = None
+listed netlist (name ∷ names) = if is_distinct (name ∷ names) then inputs_named netlist (name ∷ names) else None
+
+-- the inputs that the second line lists
 unfoldable pub inputs_of : Netlist → List (List ℕ) → Option (List ℕ)
 inputs_of netlist [] = None
-inputs_of netlist (word ∷ names) = if bytes_eq word (codes "inputs") && nat_lt 0 (length names) then inputs_after netlist [] names else None
+inputs_of netlist (word ∷ names) = if bytes_eq word (codes "inputs") then listed netlist names else None
 
 -- a last line, whose time is at least that of the line before: least is one more than that
 unfoldable pub end_row : ℕ → List ℕ → Option Row

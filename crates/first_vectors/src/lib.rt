@@ -4,7 +4,10 @@
 
 mod fault;
 mod fields;
+mod inputs;
+mod reading;
 mod row;
 mod rows;
 
 pub use fault::VectorFault;
+pub use reading::read_vectors;

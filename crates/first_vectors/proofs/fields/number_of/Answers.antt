@@ -1,4 +1,4 @@
-use Rattle.std.proofs.Common.{◌*◌, ◌+◌, arith, ap, drop, ◌∙◌, sym}
+use Rattle.std.proofs.Common.{◌*◌, ◌+◌, arith, drop, ◌∙◌, sym}
 use Rattle.first_vectors.specs.Fields.{limited_after}
 use Rattle.first_vectors.proofs.Text.{number_over, number_stop, number_step, number_end}
 use Rattle.first_vectors.proofs.fields.number_of.Goals as goal
