@@ -1,6 +1,6 @@
 -- What is read is in the form: from the reading to the relation.
-use Rattle.std.proofs.Common.{◌≡◌, ◌≢◌, ℕ, zero, suc, ◌+◌, ◌^◌, ◌<◌, ◌≤◌, Bool, true, false, cond, eqb, leb, List, [], ◌∷◌, ◌++◌, length, map, get_or, Option, Some, None, refl, sym, ap, subst, ◌∙◌, arith, inl, inr, ◌⊎◌, ◌&&◌}
-use Rattle.std.specs.Prelude.{find, codes}
+use Rattle.std.proofs.Common.{◌≡◌, ◌≢◌, ℕ, zero, suc, ◌+◌, ◌^◌, ◌<◌, ◌≤◌, Bool, true, false, cond, eqb, leb, List, [], ◌∷◌, ◌++◌, length, map, get_or, Option, Some, None, refl, sym, ap, subst, ◌∙◌, arith, inl, inr, ◌⊎◌, ◌&&◌, Result, Ok, Err}
+use Rattle.std.specs.Prelude.{find, codes, IfOk}
 use Rattle.std.specs.List.{AllZip, AllByRecursion, All, Contains}
 use Rattle.std.specs.Str.{bytes_eq}
 use Rattle.std.proofs.lemmas.Bool.{cases_Bool, and_parts, leb-true, eqb-true}
@@ -14,10 +14,11 @@ use Rattle.gate_net.specs.declared.stimulus.ValueLine.{ValueLine}
 use Rattle.gate_net.specs.declared.stimulus.Stimulus.{Stimulus}
 use Rattle.gate_net.specs.Sound.{AreApart, IsLawful, times_of}
 use Rattle.name_table.specs.Names.{is_distinct}
+use Rattle.first_vectors.specs.declared.fault.VectorFault.{VectorFault}
 use Rattle.first_vectors.specs.declared.row.Row.{Row}
 use Rattle.first_vectors.specs.declared.row.Row.TheVariants.{Values, End}
 use Rattle.first_vectors.specs.Fields.{◌>>=◌, lines_of, fields_of, table_of, two_of, time_of}
-use Rattle.first_vectors.specs.Reading.{value_of, values_of, name_of, input_named, inputs_named, listed, inputs_of, end_row, value_row, row_of, joined, rows_of, is_first, stimulus_after, stimulus_in, stimulus_of}
+use Rattle.first_vectors.specs.Reading.{value_of, values_of, name_of, input_named, inputs_named, listed, inputs_of, end_row, value_row, row_of, joined, rows_of, is_first, stimulus_after, stimulus_in, stimulus_of, Gives}
 use Rattle.first_vectors.specs.First.{IsValue, IsRow, IsInput, row_fields, spelling, IsFirstVectors}
 use Rattle.first_vectors.proofs.Names.{distinct_apart}
 use Rattle.first_vectors.proofs.Steps.{bind_some, guard_some, zip_length, zip_at, time_small, Rises, rises_above, rises_below, rises_pairs}
@@ -213,13 +214,17 @@ first_found (word ∷ form ∷ third ∷ others) e = absurd cc
 
 says_lawful : (netlist : Netlist) (fields : List (List ℕ)) (table : List (List (List ℕ))) (stimulus : Stimulus) → Lists netlist fields stimulus.inputs → Says (length stimulus.inputs) 0 table stimulus.lines stimulus.end → IsLawful netlist stimulus
 says_lawful netlist fields table stimulus lists says = record {
-    known = inputs_known netlist lists.names stimulus.inputs lists.inputs;
-    apart = inputs_apart netlist lists.names stimulus.inputs lists.distinct lists.inputs;
-    widths = All-from_recursion (λ line. length line.values ≡ length stimulus.inputs) stimulus.lines says.widths;
-    rising = λ j k lt in'. rises_pairs 0 stimulus.lines stimulus.end j k says.rises lt in';
-    ended = All-from_get_or (λ time. time ≤ stimulus.end) (times_of stimulus.lines) 0 (λ k lt. rises_below 0 stimulus.lines stimulus.end k says.rises (omega (arith, length-map stimulus.lines (λ line. line.time))));
-    limit = time_small says.last stimulus.end says.ended;
-  }
+  known = inputs_known netlist lists.names stimulus.inputs lists.inputs;
+  apart = inputs_apart netlist lists.names stimulus.inputs lists.distinct lists.inputs;
+  widths = All-from_recursion (λ line. length line.values ≡ length stimulus.inputs) stimulus.lines says.widths;
+  rising = λ j k lt in'. rises_pairs 0 stimulus.lines stimulus.end j k says.rises lt in';
+  ended = All-from_get_or (λ time. time ≤ stimulus.end) (times_of stimulus.lines) 0 (λ k lt. rises_below 0 stimulus.lines stimulus.end k says.rises (omega (arith, length-map stimulus.lines (λ line. line.time))));
+  limit = time_small says.last stimulus.end says.ended;
+}
+
+spelled_from : (whole : List (List (List ℕ))) (first second : List (List ℕ)) (rest : List (List (List ℕ))) (names : List (List ℕ)) (rows : List (List ℕ × List ℕ)) (last : List ℕ)
+    → whole ≡ first ∷ second ∷ rest → first ≡ codes "vectors" ∷ codes "1" ∷ [] → second ≡ codes "inputs" ∷ names → rest ≡ map row_fields rows ++ (codes "end" ∷ last ∷ []) ∷ [] → whole ≡ spelling names rows last
+spelled_from whole first second rest names rows last is f g h = is ∙ ap (λ (x : List (List ℕ)). x ∷ second ∷ rest) f ∙ ap (λ (x : List (List ℕ)). (codes "vectors" ∷ codes "1" ∷ []) ∷ x ∷ rest) g ∙ ap (λ (t : List (List (List ℕ))). (codes "vectors" ∷ codes "1" ∷ []) ∷ (codes "inputs" ∷ names) ∷ t) h
 
 is_found_in : (netlist : Netlist) (text : List ℕ) (table : List (List (List ℕ))) (stimulus : Stimulus) → table_of text ≡ table → stimulus_in netlist table ≡ Some stimulus → IsFirstVectors netlist text stimulus
 unfolding table_of stimulus_in stimulus_after
@@ -237,7 +242,7 @@ is_found_in netlist text (first ∷ second ∷ rows) stimulus is e =
       names = lists.names;
       rows = says.rows;
       last = says.last;
-      spelled = is ∙ ap (λ (f : List (List ℕ)). f ∷ second ∷ rows) (first_found first g.0) ∙ ap (λ (f : List (List ℕ)). (codes "vectors" ∷ codes "1" ∷ []) ∷ f ∷ rows) lists.spelled ∙ ap (λ (t : List (List (List ℕ))). (codes "vectors" ∷ codes "1" ∷ []) ∷ (codes "inputs" ∷ lists.names) ∷ t) says.spelled;
+      spelled = spelled_from (table_of text) first second rows lists.names says.rows says.last is (first_found first g.0) lists.spelled says.spelled;
       some = lists.some;
       inputs = lists.inputs;
       lines = says.each;
@@ -250,3 +255,12 @@ is_found_in netlist text (first ∷ second ∷ rows) stimulus is e =
 pub is_found : (netlist : Netlist) (text : List ℕ) (stimulus : Stimulus) → stimulus_of netlist text ≡ Some stimulus → IsFirstVectors netlist text stimulus
 unfolding stimulus_of
 is_found netlist text stimulus e = is_found_in netlist text (table_of text) stimulus refl e
+
+-- what reading answered is in the form
+pub answer_found : (netlist : Netlist) (text : List ℕ) (result : Result Stimulus VectorFault) → Gives (λ s. s) result (stimulus_of netlist text) → IfOk result (λ s. IsFirstVectors netlist text s)
+answer_found netlist text (Ok stimulus) gives = is_found netlist text stimulus gives
+answer_found netlist text (Err fault) gives = tt
+
+pub answer_lawful : (netlist : Netlist) (text : List ℕ) (result : Result Stimulus VectorFault) → Gives (λ s. s) result (stimulus_of netlist text) → IfOk result (λ s. IsLawful netlist s)
+answer_lawful netlist text (Ok stimulus) gives = (is_found netlist text stimulus gives).lawful
+answer_lawful netlist text (Err fault) gives = tt

@@ -16,7 +16,7 @@ use Rattle.first_vectors.specs.Reading.{name_of, input_names, input_named, input
 
 -- ---- names apart
 
-is_among-not : (name : List ℕ) (names : List (List ℕ)) → ((j : ℕ) → j < length names → get_or names j [] ≡ name → ⊥) → is_among name names ≡ false
+pub is_among-not : (name : List ℕ) (names : List (List ℕ)) → ((j : ℕ) → j < length names → get_or names j [] ≡ name → ⊥) → is_among name names ≡ false
 is_among-not name [] apart = refl
 is_among-not name (other ∷ names) apart =
     or_from (same_name name other) (is_among name names) (false_from_ne_true (same_name name other) (λ e. apart 0 (omega arith) (sym ((bytes_eq-Decides name other).0 e)))) (is_among-not name names (λ j lt. apart (suc j) (omega arith)))
@@ -36,7 +36,7 @@ distinct_apart (name ∷ names) distinct (suc j) (suc k) lt in' =
     let parts = and_parts (not (is_among name names)) (is_distinct names) distinct in
     distinct_apart names parts.1 j k (omega arith) (omega arith)
 
-names_apart : (netlist : Netlist) → is_distinct netlist.names ≡ true → (a b : ℕ) → a < length netlist.names → b < length netlist.names → (a ≡ b → ⊥) → name_of netlist a ≡ name_of netlist b → ⊥
+pub names_apart : (netlist : Netlist) → is_distinct netlist.names ≡ true → (a b : ℕ) → a < length netlist.names → b < length netlist.names → (a ≡ b → ⊥) → name_of netlist a ≡ name_of netlist b → ⊥
 names_apart netlist distinct a b in_a in_b differ e =
     elim (cases_order a b) [
       | inl same ↦ differ same
@@ -48,10 +48,10 @@ names_apart netlist distinct a b in_a in_b differ e =
 next_apart : (netlist : Netlist) (i : ℕ) → IsSound netlist → is_distinct netlist.names ≡ true → i < length netlist.inputs → is_among (name_of netlist (get_or netlist.inputs i 0)) (map (name_of netlist) (take i netlist.inputs)) ≡ false
 next_apart netlist i sound distinct lt =
     is_among-not (name_of netlist (get_or netlist.inputs i 0)) (map (name_of netlist) (take i netlist.inputs)) (λ j below e.
-        let before : j < i = omega (arith, length-map (take i netlist.inputs) (name_of netlist), length-take i netlist.inputs) in
-        let within : j < length (take i netlist.inputs) = omega (arith, length-take i netlist.inputs) in
-        let here : get_or (map (name_of netlist) (take i netlist.inputs)) j [] ≡ name_of netlist (get_or netlist.inputs j 0) = get_or-map (name_of netlist) (take i netlist.inputs) j 0 [] within ∙ ap (name_of netlist) (get_or-take i netlist.inputs j 0 before) in
-        names_apart netlist distinct (get_or netlist.inputs j 0) (get_or netlist.inputs i 0) (sound.inputs j (omega arith)) (sound.inputs i lt) (sound.inputs_apart j i before lt) (sym here ∙ e))
+    let before : j < i = omega (arith, length-map (take i netlist.inputs) (name_of netlist), length-take i netlist.inputs) in
+    let within : j < length (take i netlist.inputs) = omega (arith, length-take i netlist.inputs) in
+    let here : get_or (map (name_of netlist) (take i netlist.inputs)) j [] ≡ name_of netlist (get_or netlist.inputs j 0) = get_or-map (name_of netlist) (take i netlist.inputs) j 0 [] within ∙ ap (name_of netlist) (get_or-take i netlist.inputs j 0 before) in
+    names_apart netlist distinct (get_or netlist.inputs j 0) (get_or netlist.inputs i 0) (sound.inputs j (omega arith)) (sound.inputs i lt) (sound.inputs_apart j i before lt) (sym here ∙ e))
 
 -- the table of the inputs' names grows by the next of them
 pub table_grows : (netlist : Netlist) (i : ℕ) (table next : List (List ℕ)) (added : Bool) (name : List ℕ) → IsSound netlist → is_distinct netlist.names ≡ true → i < length netlist.inputs → name ≡ name_of netlist (get_or netlist.inputs i 0)
@@ -181,7 +181,7 @@ pub seen_more : (netlist : Netlist) (seen : List (List ℕ)) (nets : List ℕ) (
 seen_more netlist seen nets name net h here new =
     record {
       distinct = is_distinct-push seen name h.distinct new;
-      named = inputs_named-append netlist seen name ∙ rw (h.named, here) refl
+      named = inputs_named-append netlist seen name ∙ rw (h.named, here) refl;
     }
 
 pub listed_all : (netlist : Netlist) (fields seen : List (List ℕ)) (nets : List ℕ) (name : List ℕ) (net : ℕ) → Seen netlist (seen ++ name ∷ []) nets → fields ≡ seen ++ name ∷ [] → listed netlist fields ≡ Some nets

@@ -44,7 +44,13 @@ fn end_in(least: u64, field: &[u8]) -> Result<Row, VectorFault>
 }
 
 #[tactic(auto, unfolding(crate::specs::Reading::value_row))]
-fn values_row(alloc: Global, width: usize, least: u64, first: &[u8], second: &[u8]) -> Result<Row, VectorFault>
+fn values_row(
+    alloc: Global,
+    width: usize,
+    least: u64,
+    first: &[u8],
+    second: &[u8],
+) -> Result<Row, VectorFault>
     ensures row { Gives (λ row. row) result (value_row width least first.now second.now) }
     ensures small { IfOk result (λ row. time_at row ≤ 2 ^ 40) }
 {
@@ -75,7 +81,11 @@ fn row_in(alloc: Global, width: usize, least: u64, line: &[u8]) -> Result<Row, V
 }
 
 /// The value lines of a text and the end of the run that its last line says.
-pub fn rows_in(alloc: Global, width: usize, text: &[u8]) -> Result<(Vec<ValueLine>, u64), VectorFault>
+pub fn rows_in(
+    alloc: Global,
+    width: usize,
+    text: &[u8],
+) -> Result<(Vec<ValueLine>, u64), VectorFault>
     ensures { Gives (λ x. (x.0.items, x.1)) result (rows_of width 0 (table_of text.now)) }
 {
     let mut lines = Vec::new(alloc);

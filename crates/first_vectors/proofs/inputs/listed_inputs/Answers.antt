@@ -22,7 +22,7 @@ loop-input-preserved c =
     let next : c.add.new.self ≡ c.loop-input.seen ++ c.field_at.result.0.now ∷ [] = grown c.in_ok-add.field-0 c.field_at.result.0.now c.loop-input.seen c.add.new.self c.in_ok-add.ensures.names new in
     record {
       parts = parts_more (fields_of c.args.names.now) c.loop-input.seen (fields_of c.loop-input.rest.now) c.field_at.result.0.now (fields_of c.in-Some-others.after.now) c.add.new.self c.loop-input.invariant.parts (field_then c.loop-input.rest.now c.field_at.result.0.now c.field_at.result.1 c.in-Some-others.after c.in-Some-others.is c.field_at.ensures.parts) next;
-      seen = rw (next, c.in_ok-push.ensures.items) (seen_more c.args.netlist.now c.loop-input.seen c.loop-input.inputs.items c.field_at.result.0.now c.in-Some.input c.loop-input.invariant.seen (sym c.in-Some.ensures) (apart_from c.in_ok-add.field-0 c.field_at.result.0.now c.loop-input.seen c.in_ok-add.ensures.new new))
+      seen = rw (next, c.in_ok-push.ensures.items) (seen_more c.args.netlist.now c.loop-input.seen c.loop-input.inputs.items c.field_at.result.0.now c.in-Some.input c.loop-input.invariant.seen (sym c.in-Some.ensures) (apart_from c.in_ok-add.field-0 c.field_at.result.0.now c.loop-input.seen c.in_ok-add.ensures.new new));
     }
 
 pub returns-in-None-others : goal.returns-in-None-others

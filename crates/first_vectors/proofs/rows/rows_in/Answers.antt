@@ -30,7 +30,7 @@ loop-line-preserved c =
     let cut : lines_of c.loop-line.rest.now ≡ c.in-Some.line.now ∷ lines_of c.in-Some.after.now = search rules in
     record {
       small = (let at : c.in-Values.line.time ≤ 2 ^ 40 = rw c.in-Values.is at c.in_ok-line.ensures.small in omega arith);
-      so_far = rw c.in_ok-push-in-Values.ensures.items (rows_step c.args.width c.loop-line.least c.loop-line.lines.items c.in-Values.line c.loop-line.rest.now c.in-Some.line.now c.in-Some.after.now (rows_of c.args.width 0 (table_of c.args.text.now)) cut (c.in_ok-line.ensures.row ∙ ap Some c.in-Values.is) c.loop-line.invariant.so_far)
+      so_far = rw c.in_ok-push-in-Values.ensures.items (rows_step c.args.width c.loop-line.least c.loop-line.lines.items c.in-Values.line c.loop-line.rest.now c.in-Some.line.now c.in-Some.after.now (rows_of c.args.width 0 (table_of c.args.text.now)) cut (c.in_ok-line.ensures.row ∙ ap Some c.in-Values.is) c.loop-line.invariant.so_far);
     }
 
 pub returns : goal.returns

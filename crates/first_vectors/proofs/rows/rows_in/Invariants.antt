@@ -7,7 +7,7 @@ use Rattle.first_vectors.proofs.rows.rows_in.Given as goal
 abbrev pub invariant-loop-line : goal.invariant-loop-line
 invariant-loop-line l = record {
   small : l.least ≤ 2 ^ 40 + 1;
-  so_far : with_lines l.lines.items (rows_of l.width l.least (table_of l.rest)) ≡ rows_of l.width 0 (table_of l.text)
+  so_far : with_lines l.lines.items (rows_of l.width l.least (table_of l.rest)) ≡ rows_of l.width 0 (table_of l.text);
 }
 
 abbrev pub decreases-loop-line : goal.decreases-loop-line
