@@ -1,9 +1,9 @@
 -- What is in the form is read: from the relation to the reading.
-use Rattle.std.proofs.Common.{◌≡◌, ◌≢◌, ℕ, zero, suc, ◌+◌, ◌^◌, ◌<◌, ◌≤◌, Bool, true, false, cond, eqb, leb, List, [], ◌∷◌, ◌++◌, length, map, get_or, Option, Some, None, refl, sym, ap, subst, ◌∙◌, arith, inl, inr, ◌⊎◌, ◌&&◌, not, Result, Ok, Err}
-use Rattle.std.specs.Prelude.{find, codes, IfOk}
-use Rattle.std.specs.List.{AllZip, AllByRecursion, All, Contains}
+use Rattle.std.proofs.Common.{◌≡◌, ℕ, zero, suc, ◌+◌, ◌<◌, ◌≤◌, Bool, true, false, eqb, List, [], ◌∷◌, ◌++◌, length, map, get_or, Option, Some, refl, sym, ap, subst, ◌∙◌, arith, inl, inr, not, Result}
+use Rattle.std.specs.Prelude.{find, codes}
+use Rattle.std.specs.List.{AllZip, AllByRecursion, Contains}
 use Rattle.std.specs.Str.{bytes_eq}
-use Rattle.std.proofs.lemmas.Bool.{cases_Bool, cases_eq, cases_order, and_from, le-leb, eq-eqb, both_ways, false_from_ne_true, not_from_false}
+use Rattle.std.proofs.lemmas.Bool.{cases_Bool, cases_eq, and_from, le-leb, eq-eqb, both_ways, false_from_ne_true, not_from_false}
 use Rattle.std.proofs.lemmas.Slice.Eq.{bytes_eq-Decides}
 use Rattle.std.proofs.lemmas.List.{length-map, get_or_read}
 use Rattle.std.proofs.lemmas.List.Elements.{recursion_from_All}
@@ -12,14 +12,13 @@ use Rattle.level_range.specs.declared.range.Logic.TheVariants.{Zero, One, X, Z}
 use Rattle.gate_net.specs.declared.netlist.Netlist.{Netlist}
 use Rattle.gate_net.specs.declared.stimulus.ValueLine.{ValueLine}
 use Rattle.gate_net.specs.declared.stimulus.Stimulus.{Stimulus}
-use Rattle.gate_net.specs.Sound.{AreApart, IsSound, IsLawful, times_of}
+use Rattle.gate_net.specs.Sound.{AreApart, IsSound, IsLawful}
 use Rattle.name_table.specs.Names.{is_among, is_distinct}
 use Rattle.first_vectors.specs.declared.fault.VectorFault.{VectorFault}
-use Rattle.first_vectors.specs.declared.row.Row.{Row}
 use Rattle.first_vectors.specs.declared.row.Row.TheVariants.{Values, End}
-use Rattle.first_vectors.specs.Fields.{◌>>=◌, lines_of, fields_of, table_of, two_of, number_after, time_of}
-use Rattle.first_vectors.specs.Reading.{value_of, values_of, name_of, input_named, inputs_named, listed, inputs_of, end_row, value_row, row_of, joined, rows_of, is_first, stimulus_after, stimulus_in, stimulus_of, Gives}
-use Rattle.first_vectors.specs.First.{IsValue, IsRow, IsInput, row_fields, spelling, IsFirstVectors}
+use Rattle.first_vectors.specs.Fields.{table_of, number_after, time_of}
+use Rattle.first_vectors.specs.Reading.{values_of, name_of, input_named, inputs_named, listed, inputs_of, end_row, value_row, row_of, rows_of, stimulus_after, stimulus_in, stimulus_of, Gives}
+use Rattle.first_vectors.specs.First.{IsValue, IsRow, IsInput, row_fields, IsFirstVectors}
 use Rattle.first_vectors.proofs.Names.{is_among-not, names_apart}
 use Rattle.first_vectors.proofs.Steps.{zip_length, zip_at, Rises, rises_from}
 

@@ -1,5 +1,5 @@
 -- What is read is in the form: from the reading to the relation.
-use Rattle.std.proofs.Common.{◌≡◌, ◌≢◌, ℕ, zero, suc, ◌+◌, ◌^◌, ◌<◌, ◌≤◌, Bool, true, false, cond, eqb, leb, List, [], ◌∷◌, ◌++◌, length, map, get_or, Option, Some, None, refl, sym, ap, subst, ◌∙◌, arith, inl, inr, ◌⊎◌, ◌&&◌, Result, Ok, Err}
+use Rattle.std.proofs.Common.{◌≡◌, ℕ, suc, ◌+◌, ◌<◌, ◌≤◌, Bool, true, false, cond, eqb, leb, List, [], ◌∷◌, ◌++◌, length, map, Some, None, refl, sym, ap, subst, ◌∙◌, arith, inl, inr, ◌⊎◌, ◌&&◌, Result, Ok, Err}
 use Rattle.std.specs.Prelude.{find, codes, IfOk}
 use Rattle.std.specs.List.{AllZip, AllByRecursion, All, Contains}
 use Rattle.std.specs.Str.{bytes_eq}
@@ -8,7 +8,7 @@ use Rattle.std.proofs.lemmas.Slice.Eq.{bytes_eq-Decides}
 use Rattle.std.proofs.lemmas.List.Elements.{All-from_get_or, All-from_recursion}
 use Rattle.std.proofs.lemmas.List.{length-map}
 use Rattle.level_range.specs.declared.range.Logic.{Logic}
-use Rattle.level_range.specs.declared.range.Logic.TheVariants.{Zero, One, X, Z}
+use Rattle.level_range.specs.declared.range.Logic.TheVariants.{Zero, One}
 use Rattle.gate_net.specs.declared.netlist.Netlist.{Netlist}
 use Rattle.gate_net.specs.declared.stimulus.ValueLine.{ValueLine}
 use Rattle.gate_net.specs.declared.stimulus.Stimulus.{Stimulus}
@@ -17,11 +17,11 @@ use Rattle.name_table.specs.Names.{is_distinct}
 use Rattle.first_vectors.specs.declared.fault.VectorFault.{VectorFault}
 use Rattle.first_vectors.specs.declared.row.Row.{Row}
 use Rattle.first_vectors.specs.declared.row.Row.TheVariants.{Values, End}
-use Rattle.first_vectors.specs.Fields.{◌>>=◌, lines_of, fields_of, table_of, two_of, time_of}
+use Rattle.first_vectors.specs.Fields.{◌>>=◌, table_of, two_of, time_of}
 use Rattle.first_vectors.specs.Reading.{value_of, values_of, name_of, input_named, inputs_named, listed, inputs_of, end_row, value_row, row_of, joined, rows_of, is_first, stimulus_after, stimulus_in, stimulus_of, Gives}
 use Rattle.first_vectors.specs.First.{IsValue, IsRow, IsInput, row_fields, spelling, IsFirstVectors}
 use Rattle.first_vectors.proofs.Names.{distinct_apart}
-use Rattle.first_vectors.proofs.Steps.{bind_some, guard_some, zip_length, zip_at, time_small, Rises, rises_above, rises_below, rises_pairs}
+use Rattle.first_vectors.proofs.Steps.{bind_some, guard_some, zip_length, zip_at, time_small, Rises, rises_below, rises_pairs}
 
 -- ---- values
 

@@ -11,3 +11,6 @@ mod rows;
 
 pub use fault::VectorFault;
 pub use reading::read_vectors;
+
+#[cfg(test)]
+mod tests;
