@@ -4,3 +4,4 @@ pub mod Names
 pub mod Steps
 pub mod Found
 pub mod Again
+pub mod Latch
