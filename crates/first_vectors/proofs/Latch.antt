@@ -1,10 +1,10 @@
 -- What the definitions say of small texts, for the nets of a latch.
-use Rattle.std.proofs.Common.{◌≡◌, ℕ, List, [], ◌∷◌, ◌++◌, Option, Some, None, refl}
+use Rattle.std.proofs.Common.{◌≡◌, ℕ, List, [], ◌∷◌, ◌++◌, Some, None, refl}
 use Rattle.std.specs.Prelude.{codes}
 use Rattle.level_range.specs.declared.range.Logic.TheVariants.{Zero, One}
 use Rattle.gate_net.specs.declared.netlist.Netlist.{Netlist}
 use Rattle.gate_net.specs.declared.stimulus.Stimulus.{Stimulus}
-use Rattle.first_vectors.specs.Fields.{lines_of, fields_of, table_of, number_after, within_limit, time_of}
+use Rattle.first_vectors.specs.Fields.{fields_of, table_of, number_after, within_limit, time_of}
 use Rattle.first_vectors.specs.Reading.{values_of, input_named, inputs_named, listed, inputs_of, end_row, value_row, row_of, rows_of, stimulus_after, stimulus_in, stimulus_of}
 
 abbrev latch : Netlist

@@ -8,7 +8,8 @@ abbrev pub ◌>>=◌ : {A B : Type 0} → Option A → (A → Option B) → Opti
 None >>= f = None
 (Some x) >>= f = f x
 
--- the pieces between line feeds; what stands behind the last line feed is a line only where it isn't empty
+-- the pieces between line feeds; what stands behind the last of them is a line only where it isn't
+-- empty
 abbrev pub lines_of : List ℕ → List (List ℕ)
 lines_of [] = []
 lines_of (b ∷ bs) = if b == 10 then [] ∷ lines_of bs else onto_first b (lines_of bs)
@@ -49,4 +50,5 @@ limited_after n digits = number_after n digits >>= within_limit
 
 -- a time of 1 to 20 decimal digits
 unfoldable pub time_of : List ℕ → Option ℕ
-time_of field = if nat_lt 0 (length field) && nat_le (length field) 20 then limited_after 0 field else None
+time_of field =
+    if nat_lt 0 (length field) && nat_le (length field) 20 then limited_after 0 field else None

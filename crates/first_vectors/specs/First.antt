@@ -33,11 +33,14 @@ row_fields row = row.0 ∷ row.1 ∷ []
 
 -- the fields of the lines: vectors 1, inputs and the names, the rows, end and its time
 abbrev pub spelling : List (List ℕ) → List (List ℕ × List ℕ) → List ℕ → List (List (List ℕ))
-spelling names rows last = (codes "vectors" ∷ codes "1" ∷ []) ∷ (codes "inputs" ∷ names) ∷ (map row_fields rows ++ (codes "end" ∷ last ∷ []) ∷ [])
+spelling names rows last =
+    (codes "vectors" ∷ codes "1" ∷ [])
+    ∷ (codes "inputs" ∷ names)
+    ∷ (map row_fields rows ++ (codes "end" ∷ last ∷ []) ∷ [])
 
--- The text is in the first vector form and says the stimulus: its lines list inputs by name, one at
--- least, rows of a time and values, and the end, and what they say is lawful: no input twice, a value
--- for each input, rising times, and an end that is neither below the last of them nor above 2 ^ 40.
+-- The text is in the first vector form and says the stimulus. Its lines list one or more inputs by
+-- name, rows of a time and values, and the end. What they say is lawful: no input twice, a value for
+-- each input, rising times, and an end that is neither below the last of them nor above 2 ^ 40.
 pub record IsFirstVectors (netlist : Netlist) (text : List ℕ) (stimulus : Stimulus) : Type 0 where
   pub names : List (List ℕ)
   pub rows : List (List ℕ × List ℕ)

@@ -48,12 +48,14 @@ inputs_named netlist (name ∷ names) = do
 -- the inputs of one or more names, of which none stands twice
 unfoldable pub listed : Netlist → List (List ℕ) → Option (List ℕ)
 listed netlist [] = None
-listed netlist (name ∷ names) = if is_distinct (name ∷ names) then inputs_named netlist (name ∷ names) else None
+listed netlist (name ∷ names) =
+    if is_distinct (name ∷ names) then inputs_named netlist (name ∷ names) else None
 
 -- the inputs that the second line lists
 unfoldable pub inputs_of : Netlist → List (List ℕ) → Option (List ℕ)
 inputs_of netlist [] = None
-inputs_of netlist (word ∷ names) = if bytes_eq word (codes "inputs") then listed netlist names else None
+inputs_of netlist (word ∷ names) =
+    if bytes_eq word (codes "inputs") then listed netlist names else None
 
 -- a last line, whose time is at least that of the line before: least is one more than that
 unfoldable pub end_row : ℕ → List ℕ → Option Row
@@ -61,11 +63,17 @@ end_row least field = do
   time ← time_of field
   if nat_le least (time + 1) then Some (End time) else None
 
+-- a value line at a time
+abbrev pub value_row_at : ℕ → List ℕ → Option Row
+value_row_at time second = do
+  values ← values_of second
+  Some (Values (record { time = time; values = values }))
+
 -- a value line, whose time is at least least
 unfoldable pub value_row : ℕ → ℕ → List ℕ → List ℕ → Option Row
 value_row width least first second = do
   time ← time_of first
-  if nat_le least time && (length second == width) then (values_of second >>= λ values. Some (Values (record { time = time; values = values }))) else None
+  if nat_le least time && (length second == width) then value_row_at time second else None
 
 -- a line of two fields
 unfoldable pub row_of : ℕ → ℕ → List (List ℕ) → Option Row
@@ -73,8 +81,9 @@ row_of width least fields = do
   two ← two_of fields
   if bytes_eq two.0 (codes "end") then end_row least two.1 else value_row width least two.0 two.1
 
--- what a line says with those behind it: the last line says when the run ends, a value line wants others
-abbrev pub joined : Row → List (List (List ℕ)) → (ℕ → Option (List ValueLine × ℕ)) → Option (List ValueLine × ℕ)
+-- what a line says with those behind it: the end stands last, and behind a value line stand others
+abbrev pub joined : Row → List (List (List ℕ)) → (ℕ → Option (List ValueLine × ℕ))
+    → Option (List ValueLine × ℕ)
 joined (End time) [] later = Some ([], time)
 joined (End time) (other ∷ others) later = None
 joined (Values line) others later = later (line.time + 1) >>= λ x. Some (line ∷ x.0, x.1)
@@ -82,7 +91,9 @@ joined (Values line) others later = later (line.time + 1) >>= λ x. Some (line �
 -- the value lines and the end, at times from least on
 unfoldable pub rows_of : ℕ → ℕ → List (List (List ℕ)) → Option (List ValueLine × ℕ)
 rows_of width least [] = None
-rows_of width least (fields ∷ others) = row_of width least fields >>= λ row. joined row others (λ next. rows_of width next others)
+rows_of width least (fields ∷ others) = do
+  row ← row_of width least fields
+  joined row others (λ next. rows_of width next others)
 
 -- the fields of the first line
 abbrev pub is_first : List (List ℕ) → Bool
@@ -102,7 +113,8 @@ stimulus_after netlist second rows = do
 unfoldable pub stimulus_in : Netlist → List (List (List ℕ)) → Option Stimulus
 stimulus_in netlist [] = None
 stimulus_in netlist (first ∷ []) = None
-stimulus_in netlist (first ∷ second ∷ rows) = if is_first first then stimulus_after netlist second rows else None
+stimulus_in netlist (first ∷ second ∷ rows) =
+    if is_first first then stimulus_after netlist second rows else None
 
 -- the stimulus that a text says
 unfoldable pub stimulus_of : Netlist → List ℕ → Option Stimulus

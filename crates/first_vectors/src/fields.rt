@@ -12,7 +12,9 @@ fn first_place(bytes: &[u8], mark: u8) -> Option<usize>
 
 /// The first line and the text behind it, where there is a line.
 pub fn line_at(text: &[u8]) -> Option<(&[u8], &[u8])>
-    ensures parts { MatchOption result (lines_of text.now ≡ []) (λ x. lines_of text.now ≡ x.0.now ∷ lines_of x.1.now) }
+    ensures parts { MatchOption result
+        (lines_of text.now ≡ [])
+        (λ x. lines_of text.now ≡ x.0.now ∷ lines_of x.1.now) }
     ensures shorter { MatchOption result (text.now ≡ []) (λ x. length x.1.now < length text.now) }
 {
     if text.is_empty() {
@@ -26,8 +28,12 @@ pub fn line_at(text: &[u8]) -> Option<(&[u8], &[u8])>
 
 /// The first field, and what stands behind the space after it, where there is one.
 pub fn field_at(line: &[u8]) -> (&[u8], Option<&[u8]>)
-    ensures parts { MatchOption result.1 (fields_of line.now ≡ result.0.now ∷ []) (λ rest. fields_of line.now ≡ result.0.now ∷ fields_of rest.now) }
-    ensures shorter { MatchOption result.1 (line.now ≡ result.0.now) (λ rest. length rest.now < length line.now) }
+    ensures parts { MatchOption result.1
+        (fields_of line.now ≡ result.0.now ∷ [])
+        (λ rest. fields_of line.now ≡ result.0.now ∷ fields_of rest.now) }
+    ensures shorter { MatchOption result.1
+        (line.now ≡ result.0.now)
+        (λ rest. length rest.now < length line.now) }
 {
     match first_place(line, b' ') {
         Some(i) => (&line[..i], Some(&line[i + 1..])),
@@ -37,7 +43,9 @@ pub fn field_at(line: &[u8]) -> (&[u8], Option<&[u8]>)
 
 /// Both fields of a line of two fields.
 pub fn two_fields(line: &[u8]) -> Option<(&[u8], &[u8])>
-    ensures { MatchOption result (two_of (fields_of line.now) ≡ None) (λ x. two_of (fields_of line.now) ≡ Some (x.0.now, x.1.now)) }
+    ensures { MatchOption result
+        (two_of (fields_of line.now) ≡ None)
+        (λ x. two_of (fields_of line.now) ≡ Some (x.0.now, x.1.now)) }
 {
     let (first, rest) = field_at(line);
     let (second, others) = field_at(rest?);

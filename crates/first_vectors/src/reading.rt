@@ -32,7 +32,8 @@ fn stimulus_behind(
 ) -> Result<Stimulus, VectorFault>
     requires sound { IsSound netlist.now }
     requires distinct { IsTrue (is_distinct netlist.now.names) }
-    ensures { Gives (λ stimulus. stimulus) result (stimulus_after netlist.now (fields_of second.now) (table_of rows.now)) }
+    ensures { Gives (λ stimulus. stimulus) result
+        (stimulus_after netlist.now (fields_of second.now) (table_of rows.now)) }
 {
     let inputs = inputs_in(alloc, netlist, second)?;
     let (lines, end) = rows_in(alloc, inputs.len(), rows)?;
@@ -71,7 +72,8 @@ pub fn read_vectors(alloc: Global, text: &[u8], netlist: &Netlist) -> Result<Sti
     ensures found { IfOk result (λ stimulus. IsFirstVectors netlist.now text.now stimulus) }
     ensures lawful { IfOk result (λ stimulus. IsLawful netlist.now stimulus) }
     // What a text in the form says is read, unless memory runs out.
-    ensures only { (stimulus : Stimulus) → IsFirstVectors netlist.now text.now stimulus → Gives (λ s. s) result (Some stimulus) }
+    ensures only { (stimulus : Stimulus) → IsFirstVectors netlist.now text.now stimulus →
+        Gives (λ s. s) result (Some stimulus) }
     // `Unbuilt` comes exactly where reading gives nothing.
     ensures exact { Gives (λ stimulus. stimulus) result (stimulus_of netlist.now text.now) }
 {

@@ -74,16 +74,10 @@ fn texts_in_the_form_are_read(rt: HostRuntime) -> Result<(), Fail> {
         ),
         // One input, the other order, no value line.
         ("vectors 1\ninputs r\n5 1\nend 6\n", "3 | 5 1 | end 6"),
-        (
-            "vectors 1\ninputs r s\n0 01\nend 9\n",
-            "3 2 | 0 01 | end 9",
-        ),
+        ("vectors 1\ninputs r s\n0 01\nend 9\n", "3 2 | 0 01 | end 9"),
         ("vectors 1\ninputs s\nend 0\n", "2 | end 0"),
         // Times of 1 to 20 digits, zeros in front, up to the greatest time; an end at the last time.
-        (
-            "vectors 1\ninputs s\n007 1\nend 0010\n",
-            "2 | 7 1 | end 10",
-        ),
+        ("vectors 1\ninputs s\n007 1\nend 0010\n", "2 | 7 1 | end 10"),
         (
             "vectors 1\ninputs s\n00000000000000000003 0\nend 4\n",
             "2 | 3 0 | end 4",
@@ -179,7 +173,11 @@ fn texts_outside_the_form_are_refused(rt: HostRuntime) -> Result<(), Fail> {
         "vectors 1\ninputs s\nEnd 3\n",
     ];
     for text in texts {
-        assert_eq!(rt; answer(rt.alloc(), text)?.as_str(), "unbuilt", "at {text:?}");
+        assert_eq!(rt;
+            answer(rt.alloc(), text)?.as_str(),
+            "unbuilt",
+            "at {text:?}"
+        );
     }
     Ok(())
 }
