@@ -1,0 +1,71 @@
+ghost use Rattle.std.specs.Prelude.{◌≡◌, IsTrue, IfOk};
+ghost use Rattle.gate_net.specs.Sound.{IsSound};
+ghost use Rattle.name_table.specs.Names.{is_distinct};
+ghost use Rattle.first_vectors.specs.Fields.{fields_of};
+ghost use Rattle.first_vectors.specs.Reading.{input_names, input_named, listed, inputs_of, Gives};
+
+use crate::fault::VectorFault;
+use crate::fields::field_at;
+use gate_net::Netlist;
+use name_table::NameTable;
+use std::alloc::{AllocError, Global};
+
+fn input_table(alloc: Global, netlist: &Netlist) -> Result<NameTable, AllocError>
+    requires sound { IsSound netlist.now }
+    requires distinct { IsTrue (is_distinct netlist.now.names) }
+    ensures { IfOk result (λ table. table ≡ input_names netlist.now) }
+{
+    let mut table = NameTable::new(alloc);
+    let names = netlist.names.as_slice();
+    for net in netlist.inputs.as_slice() {
+        table.add(names[*net as usize].as_slice())?;
+    }
+    Ok(table)
+}
+
+fn input_in(table: &NameTable, netlist: &Netlist, name: &[u8]) -> Option<u32>
+    requires { table.now ≡ input_names netlist.now }
+    ensures { result ≡ input_named netlist.now name.now }
+{
+    let place = table.find(name)?;
+    netlist.inputs.as_slice().get(place).copied()
+}
+
+fn listed_inputs(alloc: Global, netlist: &Netlist, names: &[u8]) -> Result<Vec<u32>, VectorFault>
+    requires sound { IsSound netlist.now }
+    requires distinct { IsTrue (is_distinct netlist.now.names) }
+    ensures { Gives (λ inputs. inputs.items) result (listed netlist.now (fields_of names.now)) }
+{
+    let table = input_table(alloc, netlist)?;
+    let mut seen = NameTable::new(alloc);
+    let mut inputs = Vec::new(alloc);
+    let mut rest = names;
+    loop {
+        let (name, others) = field_at(rest);
+        let input = match input_in(&table, netlist, name) {
+            Some(input) => input,
+            None => return Err(VectorFault::Unbuilt),
+        };
+        if !seen.add(name)? {
+            return Err(VectorFault::Unbuilt);
+        }
+        inputs.push(input)?;
+        match others {
+            Some(after) => rest = after,
+            None => return Ok(inputs),
+        }
+    }
+}
+
+/// The inputs that the second line of a text lists.
+#[tactic(auto, unfolding(crate::specs::Reading::inputs_of, crate::specs::Reading::listed))]
+pub fn inputs_in(alloc: Global, netlist: &Netlist, line: &[u8]) -> Result<Vec<u32>, VectorFault>
+    requires sound { IsSound netlist.now }
+    requires distinct { IsTrue (is_distinct netlist.now.names) }
+    ensures { Gives (λ inputs. inputs.items) result (inputs_of netlist.now (fields_of line.now)) }
+{
+    match field_at(line) {
+        (word, Some(names)) if word == b"inputs".as_slice() => listed_inputs(alloc, netlist, names),
+        _ => Err(VectorFault::Unbuilt),
+    }
+}

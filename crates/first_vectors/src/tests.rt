@@ -1,0 +1,183 @@
+ghost use Rattle.std.specs.Prelude.{IsTrue, IfOk, ◌≡◌};
+ghost use Rattle.gate_net.specs.Sound.{IsSound};
+ghost use Rattle.name_table.specs.Names.{is_distinct};
+
+use super::*;
+use flat_net::{Bytes, NameList, NetList};
+use gate_net::{GateList, Netlist, Stimulus};
+use level_range::Logic;
+use std::alloc::{AllocError, Global};
+use std::fmt::Write;
+use std::test::Fail;
+
+/// The nets of `module latch(q, qn, s, r)`, without its gates.
+fn latch(alloc: Global) -> Result<Netlist, AllocError>
+    ensures sound { IfOk result (λ netlist. IsSound netlist) }
+    ensures distinct { IfOk result (λ netlist. IsTrue (is_distinct netlist.names)) }
+{
+    let q = Bytes::from_vec(Vec::from_slice(alloc, b"q")?);
+    let qn = Bytes::from_vec(Vec::from_slice(alloc, b"qn")?);
+    let s = Bytes::from_vec(Vec::from_slice(alloc, b"s")?);
+    let r = Bytes::from_vec(Vec::from_slice(alloc, b"r")?);
+    Ok(Netlist {
+        names: NameList::from_vec(vec![in alloc; q, qn, s, r]?),
+        inputs: NetList::from_vec(vec![in alloc; 2, 3]?),
+        outputs: NetList::from_vec(vec![in alloc; 0, 1]?),
+        gates: GateList::from_vec(Vec::new(alloc)),
+    })
+}
+
+/// The listed inputs, each line with its time and values, and the end.
+fn shown(alloc: Global, stimulus: &Stimulus) -> Result<String, AllocError> {
+    let mut text = String::new(alloc);
+    for net in stimulus.inputs.as_slice() {
+        write!(text, "{net} ")?;
+    }
+    for line in stimulus.lines.as_slice() {
+        let time = line.time;
+        write!(text, "| {time} ")?;
+        for value in line.values.as_slice() {
+            text.push(match value {
+                Logic::Zero => '0',
+                Logic::One => '1',
+                Logic::X => 'x',
+                Logic::Z => 'z',
+            })?;
+        }
+        text.push(' ')?;
+    }
+    let end = stimulus.end;
+    write!(text, "| end {end}")?;
+    Ok(text)
+}
+
+fn answer(alloc: Global, text: &str) -> Result<String, AllocError> {
+    let netlist = latch(alloc)?;
+    match read_vectors(alloc, text.as_bytes(), &netlist) {
+        Ok(stimulus) => shown(alloc, &stimulus),
+        Err(VectorFault::Unbuilt) => String::from_str(alloc, "unbuilt"),
+        Err(VectorFault::Memory) => String::from_str(alloc, "memory"),
+    }
+}
+
+#[test]
+fn texts_in_the_form_are_read(rt: HostRuntime) -> Result<(), Fail> {
+    let rows = [
+        // The latch's text, and the same without the last line feed.
+        (
+            "vectors 1\ninputs s r\n0 01\n10 11\n20 10\nend 30\n",
+            "2 3 | 0 01 | 10 11 | 20 10 | end 30",
+        ),
+        (
+            "vectors 1\ninputs s r\n0 01\n10 11\n20 10\nend 30",
+            "2 3 | 0 01 | 10 11 | 20 10 | end 30",
+        ),
+        // One input, the other order, no value line.
+        ("vectors 1\ninputs r\n5 1\nend 6\n", "3 | 5 1 | end 6"),
+        ("vectors 1\ninputs r s\n0 01\nend 9\n", "3 2 | 0 01 | end 9"),
+        ("vectors 1\ninputs s\nend 0\n", "2 | end 0"),
+        // Times of 1 to 20 digits, zeros in front, up to the greatest time; an end at the last time.
+        ("vectors 1\ninputs s\n007 1\nend 0010\n", "2 | 7 1 | end 10"),
+        (
+            "vectors 1\ninputs s\n00000000000000000003 0\nend 4\n",
+            "2 | 3 0 | end 4",
+        ),
+        (
+            "vectors 1\ninputs s\n1099511627775 0\n1099511627776 1\nend 1099511627776\n",
+            "2 | 1099511627775 0 | 1099511627776 1 | end 1099511627776",
+        ),
+        (
+            "vectors 1\ninputs s\n0 0\n1 1\nend 1\n",
+            "2 | 0 0 | 1 1 | end 1",
+        ),
+        (
+            "vectors 1\ninputs s\nend 00001099511627776\n",
+            "2 | end 1099511627776",
+        ),
+    ];
+    for (text, expected) in rows {
+        assert_eq!(rt; answer(rt.alloc(), text)?.as_str(), expected, "at {text:?}");
+    }
+    Ok(())
+}
+
+#[test]
+fn texts_outside_the_form_are_refused(rt: HostRuntime) -> Result<(), Fail> {
+    let texts = [
+        // The first line.
+        "",
+        "\n",
+        "vectors 1",
+        "vectors 1\n",
+        "vectors 2\ninputs s\nend 0\n",
+        "vectors 01\ninputs s\nend 0\n",
+        "Vectors 1\ninputs s\nend 0\n",
+        "vectors\ninputs s\nend 0\n",
+        "vectors 1 1\ninputs s\nend 0\n",
+        // Blanks other than single spaces between fields.
+        "vectors  1\ninputs s\nend 0\n",
+        " vectors 1\ninputs s\nend 0\n",
+        "vectors 1 \ninputs s\nend 0\n",
+        "vectors\t1\ninputs s\nend 0\n",
+        "vectors 1\r\ninputs s\r\nend 0\r\n",
+        "vectors 1\ninputs s  r\nend 0\n",
+        "vectors 1\ninputs s \nend 0\n",
+        "vectors 1\ninputs s\n0  1\nend 0\n",
+        "vectors 1\ninputs s\n0 1 \nend 0\n",
+        "vectors 1\ninputs s\n 0 1\nend 0\n",
+        // The second line.
+        "vectors 1\ninputs\nend 0\n",
+        "vectors 1\ninputs s s\n0 01\nend 0\n",
+        "vectors 1\ninputs s r s\n0 010\nend 0\n",
+        "vectors 1\ninputs t\nend 0\n",
+        "vectors 1\ninputs q\nend 0\n",
+        "vectors 1\ninputs sr\nend 0\n",
+        "vectors 1\ninputs \\s\nend 0\n",
+        "vectors 1\ninput s\nend 0\n",
+        "vectors 1\nend 0\n",
+        // Lines that the form has nowhere, or not there.
+        "vectors 1\ninputs s\noutputs q\nend 0\n",
+        "vectors 1\ninputs s\nstrobe 0\nend 0\n",
+        "vectors 1\ninputs s\ninputs r\nend 0\n",
+        "vectors 1\n\ninputs s\nend 0\n",
+        "vectors 1\ninputs s\n// none\nend 0\n",
+        "vectors 1\ninputs s\nend 0\n\n",
+        "vectors 1\ninputs s\nend 0\nend 0\n",
+        "vectors 1\ninputs s\nend 0\n1 1\n",
+        // Values.
+        "vectors 1\ninputs s r\n0 0\nend 0\n",
+        "vectors 1\ninputs s r\n0 011\nend 0\n",
+        "vectors 1\ninputs s r\n0 0x\nend 0\n",
+        "vectors 1\ninputs s\n0 z\nend 0\n",
+        "vectors 1\ninputs s r\n0 0_1\nend 0\n",
+        "vectors 1\ninputs s\n0 2\nend 0\n",
+        "vectors 1\ninputs s\n0\nend 0\n",
+        "vectors 1\ninputs s\n0 1 1\nend 0\n",
+        // Times.
+        "vectors 1\ninputs s\n3 0\n3 1\nend 4\n",
+        "vectors 1\ninputs s\n3 0\n2 1\nend 4\n",
+        "vectors 1\ninputs s\n3 0\nend 2\n",
+        "vectors 1\ninputs s\n1099511627777 0\nend 1099511627777\n",
+        "vectors 1\ninputs s\nend 1099511627777\n",
+        "vectors 1\ninputs s\n18446744073709551617 0\nend 18446744073709551618\n",
+        "vectors 1\ninputs s\n000000000000000000003 0\nend 4\n",
+        "vectors 1\ninputs s\n-1 0\nend 4\n",
+        "vectors 1\ninputs s\n1_0 0\nend 40\n",
+        "vectors 1\ninputs s\nx 0\nend 4\n",
+        // The end.
+        "vectors 1\ninputs s\n",
+        "vectors 1\ninputs s\n0 1\n",
+        "vectors 1\ninputs s\nend\n",
+        "vectors 1\ninputs s\nend \n",
+        "vectors 1\ninputs s\nend 3 4\n",
+        "vectors 1\ninputs s\nEnd 3\n",
+    ];
+    for text in texts {
+        assert_eq!(rt;
+            answer(rt.alloc(), text)?.as_str(),
+            "unbuilt",
+            "at {text:?}"
+        );
+    }
+    Ok(())
+}

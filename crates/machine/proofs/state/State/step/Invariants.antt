@@ -1,0 +1,17 @@
+use Rattle.std.proofs.Common.{◌≡◌, ◌-◌, ℕ}
+use Rattle.machine.specs.Machine.{Machine}
+use Rattle.machine.specs.Pass.{is_due, pass}
+use Rattle.machine.specs.Run.{further, step}
+use Rattle.machine.specs.Shown.{AreShown, HaveSizes}
+use Rattle.machine.specs.StateValues.{values_of}
+use Rattle.machine.proofs.state.State.step.Given as goal
+
+abbrev pub invariant-loop-due : goal.invariant-loop-due
+invariant-loop-due l = record {
+  sizes : HaveSizes l.netlist (values_of l.self);
+  forced : l.self.forced.items ≡ l.fn.self.forced.items;
+  so_far : (m : Machine) → AreShown l.netlist (values_of l.fn.self) m → (n : Machine) × (AreShown l.netlist (values_of l.self) n × (is_due n ≡ l.due) × (further l.left l.netlist n ≡ step l.limit l.netlist m));
+}
+
+abbrev pub decreases-loop-due : goal.decreases-loop-due
+decreases-loop-due l = l.left

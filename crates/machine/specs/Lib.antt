@@ -1,0 +1,9 @@
+pub mod Machine
+pub mod Pass
+pub mod Run
+pub mod Trace
+pub mod Shown
+pub mod StateValues
+pub mod PrintedPlaces
+pub mod Places
+pub mod Progress
