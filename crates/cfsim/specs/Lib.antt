@@ -1,0 +1,6 @@
+pub mod Words
+pub mod Messages
+pub mod Answer
+pub mod Clauses
+pub mod Stops
+pub mod Reports

@@ -1,0 +1,122 @@
+//! What is to be written for a call.
+
+ghost use Rattle.std.specs.Prelude.{◌≡◌, ◌<◌, ◌≤◌, ◌⊎◌, ◌++◌, [], codes, IfOk};
+ghost use Rattle.gate_net.specs.Sound.{IsSound, IsLawful};
+ghost use Rattle.cfsim.specs.Answer.{ran};
+ghost use Rattle.cfsim.specs.Messages.{cannot_read_line, limit_line, unbuilt_line, oscillates_line};
+ghost use Rattle.cfsim.specs.Reports.{answer_of, Stopped};
+
+use crate::files::Stop;
+use crate::status::Status;
+use flat_net::Bytes;
+use gate_net::{Netlist, Stimulus};
+use itoa::Buffer;
+use machine::simulate;
+use std::alloc::{AllocError, Global};
+
+/// The most passes of a time step.
+const PASS_LIMIT: u32 = 1000;
+
+/// The status of a call, and its texts for the output and the errors.
+#[derive(Drop)]
+pub struct Report {
+    pub status: Status,
+    pub out: Bytes,
+    pub err: Bytes,
+}
+
+/// A line about a name or a number.
+fn line(alloc: Global, before: &[u8], name: &[u8], after: &[u8]) -> Result<Bytes, AllocError>
+    ensures { IfOk result (λ text. text ≡ before.now ++ name.now ++ after.now) }
+{
+    let mut text = Vec::from_slice(alloc, before)?;
+    text.extend_from_slice(name)?;
+    text.extend_from_slice(after)?;
+    Ok(Bytes::from_vec(text))
+}
+
+fn cannot_read(alloc: Global, name: &str) -> Result<Bytes, AllocError>
+    ensures { IfOk result (λ text. text ≡ cannot_read_line name.now) }
+{
+    line(alloc, b"cfsim: cannot read ", name.as_bytes(), b"\n")
+}
+
+fn too_long(alloc: Global, name: &str) -> Result<Bytes, AllocError>
+    ensures { IfOk result (λ text. text ≡ limit_line name.now) }
+{
+    line(alloc, b"", name.as_bytes(), b": limit file\n")
+}
+
+fn unbuilt(alloc: Global, name: &str) -> Result<Bytes, AllocError>
+    ensures { IfOk result (λ text. text ≡ unbuilt_line name.now) }
+{
+    line(alloc, b"", name.as_bytes(), b": unbuilt\n")
+}
+
+fn oscillates(alloc: Global, tick: u64) -> Result<Bytes, AllocError>
+    ensures { IfOk result (λ text. text ≡ oscillates_line tick) }
+{
+    let mut buffer = Buffer::new();
+    let tick = buffer.format(tick).as_bytes();
+    line(alloc, b"cfsim: good circuit oscillates at ", tick, b"\n")
+}
+
+/// A report with no text for the output.
+fn refusal(alloc: Global, status: Status, err: Bytes) -> Report
+    ensures status { result.status ≡ status }
+    ensures out { result.out ≡ [] }
+    ensures err { result.err ≡ err }
+{
+    Report {
+        status,
+        out: Bytes::from_vec(Vec::new(alloc)),
+        err,
+    }
+}
+
+/// The report of a file that stopped the call. One that is too long or outside its form has the status given.
+pub fn stopped(alloc: Global, stop: Stop, status: u8, name: &str) -> Result<Report, AllocError>
+    requires { status ≤ 8 }
+    ensures { IfOk result (λ report. Stopped stop status name.now (answer_of report)) }
+{
+    match stop {
+        Stop::Memory => Err(AllocError),
+        Stop::Read => {
+            let text = cannot_read(alloc, name)?;
+            Ok(refusal(alloc, Status::new(1), text))
+        }
+        Stop::TooLong => {
+            let text = too_long(alloc, name)?;
+            Ok(refusal(alloc, Status::new(status), text))
+        }
+        Stop::Unbuilt => {
+            let text = unbuilt(alloc, name)?;
+            Ok(refusal(alloc, Status::new(status), text))
+        }
+    }
+}
+
+/// The report of a run.
+pub fn ran(alloc: Global, netlist: &Netlist, stimulus: &Stimulus) -> Result<Report, AllocError>
+    requires sound { IsSound netlist.now }
+    requires lawful { IsLawful netlist.now stimulus.now }
+    ensures answer { IfOk result (λ report. answer_of report ≡ ran netlist.now stimulus.now) }
+    ensures statuses { IfOk result (λ report. (report.status ≡ 0) ⊎ (report.status ≡ 6)) }
+{
+    let simulated = simulate(alloc, netlist, stimulus, PASS_LIMIT)?;
+    match simulated.oscillated {
+        Some(tick) => {
+            let err = oscillates(alloc, tick)?;
+            Ok(Report {
+                status: Status::new(6),
+                out: simulated.trace,
+                err,
+            })
+        }
+        None => Ok(Report {
+            status: Status::new(0),
+            out: simulated.trace,
+            err: Bytes::from_vec(Vec::new(alloc)),
+        }),
+    }
+}
