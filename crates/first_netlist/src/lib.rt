@@ -3,7 +3,9 @@
 
 mod fault;
 mod parse;
+mod pieces;
 mod token;
 mod tree;
+mod words;
 
 pub use fault::NetlistFault;
