@@ -7,6 +7,7 @@ use Rattle.first_netlist.specs.declared.token.Token.{Token}
 use Rattle.first_netlist.specs.declared.tree.Instance.{Instance}
 use Rattle.first_netlist.specs.declared.tree.Item.{Item}
 use Rattle.first_netlist.specs.Steps.{◌>>=◌, Fails}
+use Rattle.first_netlist.specs.Declarations.{Declarations, with_item, declaring}
 use Rattle.first_netlist.specs.Modules.{Part, comma_at, instance_at, instances_at, is_end, item_at, items_at}
 
 -- what was read before, and what is still read
@@ -44,29 +45,25 @@ module _ (front : List Instance) (count i : ℕ) (tokens : List Token) (total : 
       let one : with_front front (instances_at (count - i) tokens) ≡ None = rw (k, h) refl in
       sym so_far ∙ one
 
--- the items before, and those that are still read
-abbrev pub with_items : List Item → Option (List Item) → Option (List Item)
-with_items front read = read >>= λ items. Some (front ++ items)
+declaring-item : (d : Declarations) (item : Item) (read : Option (List Item)) → declaring d (read >>= λ items. Some (item ∷ items)) ≡ declaring (with_item d item) read
+declaring-item d item (Some items) = refl
+declaring-item d item None = refl
 
-with_items-push : (front : List Item) (item : Item) (read : Option (List Item)) → with_items front (read >>= λ items. Some (item ∷ items)) ≡ with_items (front ++ item ∷ []) read
-with_items-push front item (Some items) = ap (λ (all : List Item). Some all) (simp append_assoc)
-with_items-push front item None = refl
-
-module _ (front : List Item) (count i : ℕ) (tokens : List Token) (total : Option (List Item)) (lt : i < count)
-    (so_far : with_items front (items_at (count - i) tokens) ≡ total) where
+module _ (d : Declarations) (count i : ℕ) (tokens : List Token) (total : Option Declarations) (lt : i < count)
+    (so_far : declaring d (items_at (count - i) tokens) ≡ total) where
   pub items_go_on : (item : Item) (after : List Token) → is_end tokens ≡ false → item_at tokens ≡ Some (item, after)
-      → with_items (front ++ item ∷ []) (items_at (count - (i + 1)) after) ≡ total
+      → declaring (with_item d item) (items_at (count - (i + 1)) after) ≡ total
   unfolding items_at
   items_go_on item after not_end read =
       let k : count - i ≡ suc (count - (i + 1)) = omega arith in
-      let one : with_items front (items_at (count - i) tokens) ≡ with_items (front ++ item ∷ []) (items_at (count - (i + 1)) after) = rw (k, not_end, read) (with_items-push front item (items_at (count - (i + 1)) after)) in
+      let one : declaring d (items_at (count - i) tokens) ≡ declaring (with_item d item) (items_at (count - (i + 1)) after) = rw (k, not_end, read) (declaring-item d item (items_at (count - (i + 1)) after)) in
       sym one ∙ so_far
 
-  pub items_end : is_end tokens ≡ true → total ≡ Some front
+  pub items_end : is_end tokens ≡ true → total ≡ Some d
   unfolding items_at
   items_end ended =
       let k : count - i ≡ suc (count - (i + 1)) = omega arith in
-      let one : with_items front (items_at (count - i) tokens) ≡ Some front = rw (k, ended) (ap (λ (items : List Item). Some items) (append-nil front)) in
+      let one : declaring d (items_at (count - i) tokens) ≡ Some d = rw (k, ended) refl in
       sym so_far ∙ one
 
   pub items_fail : (e : NetlistFault) → is_end tokens ≡ false → Fails e (item_at tokens) → Fails e total
@@ -74,5 +71,5 @@ module _ (front : List Item) (count i : ℕ) (tokens : List Token) (total : Opti
   items_fail Memory not_end h = tt
   items_fail Unbuilt not_end h =
       let k : count - i ≡ suc (count - (i + 1)) = omega arith in
-      let one : with_items front (items_at (count - i) tokens) ≡ None = rw (k, not_end, h) refl in
+      let one : declaring d (items_at (count - i) tokens) ≡ None = rw (k, not_end, h) refl in
       sym so_far ∙ one

@@ -1,4 +1,7 @@
 pub mod Steps
 pub mod Pieces
 pub mod Words
+pub mod Declarations
 pub mod Modules
+pub mod Meaning
+pub mod Reading

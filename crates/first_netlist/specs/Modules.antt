@@ -7,7 +7,7 @@ use Rattle.first_netlist.specs.declared.tree.Direction.TheVariants as direction
 use Rattle.first_netlist.specs.declared.tree.Instance.{Instance}
 use Rattle.first_netlist.specs.declared.tree.Item.{Item}
 use Rattle.first_netlist.specs.declared.tree.Item.TheVariants.{Ports, Wires, Gates}
-use Rattle.first_netlist.specs.declared.tree.Module.{Module}
+use Rattle.first_netlist.specs.Declarations.{Tree, Declarations, declarations_of}
 use Rattle.first_netlist.specs.Steps.{◌>>=◌}
 
 -- a part and the tokens after it
@@ -106,9 +106,15 @@ header_at tokens = do
   Some ([], after)
 
 -- the module that all the tokens are
-unfoldable pub module_of : List Token → Option Module
+unfoldable pub module_of : List Token → Option Tree
 module_of (token.Module ∷ token.Name name ∷ rest) = do
   header ← header_at rest
   items ← items_at (length header.1) header.1
   Some (record { header = header.0; items = items })
 module_of tokens = None
+
+-- what the module that all the tokens are declares
+abbrev pub declarations_in : List Token → Option Declarations
+declarations_in tokens = do
+  tree ← module_of tokens
+  Some (declarations_of tree)

@@ -19,6 +19,11 @@ abbrev pub starts_run : List ℕ → Bool
 starts_run [] = false
 starts_run (byte ∷ bytes) = is_name_byte byte
 
+-- the first byte is a blank
+abbrev pub starts_blank : List ℕ → Bool
+starts_blank [] = false
+starts_blank (byte ∷ bytes) = is_blank byte
+
 -- a byte at the front of the first piece
 abbrev pub onto : ℕ → List (List ℕ) → List (List ℕ)
 onto byte [] = (byte ∷ []) ∷ []

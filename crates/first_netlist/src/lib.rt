@@ -4,6 +4,7 @@
 mod fault;
 mod parse;
 mod pieces;
+mod tables;
 mod token;
 mod tree;
 mod words;

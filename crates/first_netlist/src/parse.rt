@@ -1,13 +1,15 @@
-ghost use Rattle.std.specs.Prelude.{◌≡◌, length, IfOk};
+ghost use Rattle.std.specs.Prelude.{◌≡◌, length};
 ghost use Rattle.std.specs.Option.{option_copied};
 ghost use Rattle.first_netlist.specs.Steps.{Gives};
-ghost use Rattle.first_netlist.specs.Modules.{close_at, semicolon_at, comma_at, is_end, names_at, terminals_at, instance_at, instances_at, item_at, items_at, header_at, module_of};
+ghost use Rattle.first_netlist.specs.Declarations.{declared, declaring};
+ghost use Rattle.first_netlist.specs.Modules.{close_at, semicolon_at, comma_at, is_end, names_at, terminals_at, instance_at, instances_at, item_at, items_at, header_at, declarations_in};
 
 use crate::fault::NetlistFault;
+use crate::tables::copy_of;
 use crate::token::Token;
-use crate::tree::{Direction, Instance, InstanceList, Item, ItemList, Module};
+use crate::tree::{Direction, Instance, InstanceList, Item, Module, add_item};
 use flat_net::{Bytes, NameList};
-use std::alloc::{AllocError, Global};
+use std::alloc::Global;
 
 #[tactic(auto, unfolding(crate::specs::Modules::close_at))]
 fn close_at(tokens: &[Token]) -> Result<&[Token], NetlistFault>
@@ -44,12 +46,6 @@ fn is_end(tokens: &[Token]) -> bool
     ensures { result ≡ is_end tokens.now }
 {
     matches!(tokens, [Token::EndModule])
-}
-
-fn copy_of(alloc: Global, name: &Bytes) -> Result<Bytes, AllocError>
-    ensures { IfOk result (λ copy. copy ≡ name.now) }
-{
-    Ok(Bytes::from_vec(Vec::from_slice(alloc, name.as_slice())?))
 }
 
 #[tactic(auto, unfolding(crate::specs::Modules::names_at))]
@@ -157,17 +153,20 @@ fn item_at(alloc: Global, tokens: &[Token]) -> Result<(Item, &[Token]), NetlistF
 }
 
 #[tactic(auto, unfolding(crate::specs::Modules::items_at))]
-fn items_at(alloc: Global, tokens: &[Token]) -> Result<ItemList, NetlistFault>
-    ensures { Gives (λ items. items) result (items_at (length tokens.now) tokens.now) }
+fn items_at(
+    alloc: Global,
+    mut module: Module,
+    tokens: &[Token],
+) -> Result<Module, NetlistFault>
+    ensures { Gives declared result (declaring (declared «module») (items_at (length tokens.now) tokens.now)) }
 {
-    let mut items = Vec::new(alloc);
     let mut rest = tokens;
     for _ in 0..tokens.len() {
         if is_end(rest) {
-            return Ok(ItemList::from_vec(items));
+            return Ok(module);
         }
         let (item, after) = item_at(alloc, rest)?;
-        items.push(item)?;
+        add_item(&mut module, item)?;
         rest = after;
     }
     Err(NetlistFault::Unbuilt)
@@ -195,16 +194,22 @@ fn header_at(alloc: Global, tokens: &[Token]) -> Result<(NameList, &[Token]), Ne
     }
 }
 
-/// The module that all the tokens are.
+/// What the module that all the tokens are declares.
 #[tactic(auto, unfolding(crate::specs::Modules::module_of))]
 pub fn module_of(alloc: Global, tokens: &[Token]) -> Result<Module, NetlistFault>
-    ensures { Gives (λ read. read) result (module_of tokens.now) }
+    ensures { Gives declared result (declarations_in tokens.now) }
 {
     match tokens {
         [Token::Module, Token::Name(_), rest @ ..] => {
             let (header, rest) = header_at(alloc, rest)?;
-            let items = items_at(alloc, rest)?;
-            Ok(Module { header, items })
+            let module = Module {
+                header: header.into_vec(),
+                inputs: Vec::new(alloc),
+                outputs: Vec::new(alloc),
+                wires: Vec::new(alloc),
+                gates: Vec::new(alloc),
+            };
+            items_at(alloc, module, rest)
         }
         _ => Err(NetlistFault::Unbuilt),
     }

@@ -1,6 +1,8 @@
-ghost use Rattle.std.specs.Prelude.{◌≡◌};
+ghost use Rattle.std.specs.Prelude.{◌≡◌, OnOk};
+ghost use Rattle.first_netlist.specs.Declarations.{declared, with_item};
 
 use flat_net::{Bytes, NameList};
+use std::alloc::AllocError;
 use std::marker::Model;
 
 /// What a port is for.
@@ -41,10 +43,11 @@ impl InstanceList {
         InstanceList { instances }
     }
 
-    pub fn as_slice(&self) -> &[Instance]
-        ensures { result.now ≡ self.now }
+    /// The vector that holds the instances.
+    pub fn into_vec(self) -> Vec<Instance>
+        ensures { result.items ≡ self }
     {
-        self.instances.as_slice()
+        self.instances
     }
 }
 
@@ -59,39 +62,25 @@ pub enum Item {
     Gates(InstanceList),
 }
 
-/// Items in their order. Contracts see the list of them.
-#[derive(Drop)]
-pub struct ItemList {
-    items: Vec<Item>,
-}
-
-impl Model for ItemList {
-    ghost use Rattle.std.specs.Prelude.{List};
-    ghost use Rattle.first_netlist.specs.declared.tree.Item.{Item};
-
-    ghost Value = { List Item };
-
-    ghost view = { λ i. i.items.items };
-}
-
-impl ItemList {
-    /// The items of a vector, which is kept.
-    pub fn from_vec(items: Vec<Item>) -> ItemList
-        ensures { result ≡ items.items }
-    {
-        ItemList { items }
-    }
-
-    pub fn as_slice(&self) -> &[Item]
-        ensures { result.now ≡ self.now }
-    {
-        self.items.as_slice()
-    }
-}
-
-/// A module: the names of its header, and its items.
+/// A module: its header, and what its items declare, by kind and in text order.
 #[derive(Drop)]
 pub struct Module {
-    pub header: NameList,
-    pub items: ItemList,
+    pub header: Vec<Bytes>,
+    pub inputs: Vec<Bytes>,
+    pub outputs: Vec<Bytes>,
+    pub wires: Vec<Bytes>,
+    pub gates: Vec<Instance>,
+}
+
+/// Adds what an item declares.
+pub fn add_item(module: &mut Module, item: Item) -> Result<(), AllocError>
+    ensures { OnOk result (declared «module».new ≡ with_item (declared «module».old) item) }
+{
+    match item {
+        Item::Ports(Direction::Input, names) => module.inputs.append(&mut names.into_vec())?,
+        Item::Ports(Direction::Output, names) => module.outputs.append(&mut names.into_vec())?,
+        Item::Wires(names) => module.wires.append(&mut names.into_vec())?,
+        Item::Gates(instances) => module.gates.append(&mut instances.into_vec())?,
+    }
+    Ok(())
 }

@@ -1,6 +1,9 @@
-ghost use Rattle.std.specs.Prelude.{◌≡◌, IfOk};
-ghost use Rattle.first_netlist.specs.Words.{fixed_token, starts_name, name_token, token_of};
+ghost use Rattle.std.specs.Prelude.{◌≡◌, ℕ, List, IfOk};
+ghost use Rattle.first_netlist.specs.Words.{fixed_token, starts_name, name_token, token_of, tokens_among};
+ghost use Rattle.first_netlist.specs.Pieces.{pieces};
+ghost use Rattle.name_table.specs.Names.{is_among};
 
+use crate::pieces::next_piece;
 use crate::token::Token;
 use flat_net::Bytes;
 use name_table::NameTable;
@@ -66,4 +69,34 @@ fn token_of(alloc: Global, words: &NameTable, piece: &[u8]) -> Result<Token, All
         Some(token) => Ok(token),
         None => name_token(alloc, words, piece),
     }
+}
+
+/// The pieces of a text, as a table.
+pub fn words_in(alloc: Global, text: &[u8]) -> Result<NameTable, AllocError>
+    ensures { IfOk result (λ words. (name : List ℕ) → is_among name words ≡ is_among name (pieces text.now)) }
+{
+    let mut words = NameTable::new(alloc);
+    let mut rest = text;
+    while let Some((piece, after)) = next_piece(rest) {
+        words.add(piece)?;
+        rest = after;
+    }
+    Ok(words)
+}
+
+/// The tokens of a text, where the given words name nothing.
+pub fn tokens_among(
+    alloc: Global,
+    words: &NameTable,
+    text: &[u8],
+) -> Result<Vec<Token>, AllocError>
+    ensures { IfOk result (λ tokens. tokens.items ≡ tokens_among words.now text.now) }
+{
+    let mut tokens = Vec::new(alloc);
+    let mut rest = text;
+    while let Some((piece, after)) = next_piece(rest) {
+        tokens.push(token_of(alloc, words, piece)?)?;
+        rest = after;
+    }
+    Ok(tokens)
 }

@@ -1,0 +1,11 @@
+-- The netlist of a text of the first netlist form.
+use Rattle.std.specs.Prelude.{ℕ, List, Option}
+use Rattle.gate_net.specs.declared.netlist.Netlist.{Netlist}
+use Rattle.first_netlist.specs.Steps.{◌>>=◌}
+use Rattle.first_netlist.specs.Words.{tokens_of}
+use Rattle.first_netlist.specs.Modules.{declarations_in}
+use Rattle.first_netlist.specs.Meaning.{meaning}
+
+-- the netlist that the text means, where it has the form and keeps its rules
+unfoldable pub netlist_of : List ℕ → Option Netlist
+netlist_of text = declarations_in (tokens_of text) >>= meaning
