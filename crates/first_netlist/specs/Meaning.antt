@@ -1,6 +1,6 @@
 -- The netlist that lawful declarations mean.
 use Rattle.std.specs.Prelude.{ℕ, zero, suc, Bool, true, false, not, ◌&&◌, ◌||◌, nat_le, nat_eq, if◌then◌else◌, List, [], ◌∷◌, ◌++◌, length, filter, Option, Some, None}
-use Rattle.std.specs.List.{filter_map, list_all, list_any}
+use Rattle.std.specs.List.{flat_map, list_all, list_any}
 use Rattle.gate_net.specs.Sound.{driven_nets}
 use Rattle.gate_net.specs.declared.netlist.Gate.{Gate}
 use Rattle.gate_net.specs.declared.netlist.Netlist.{Netlist}
@@ -33,21 +33,35 @@ all_among others names = list_all (λ name. is_among name others) names
 abbrev pub none_among : List (List ℕ) → List (List ℕ) → Bool
 none_among others names = list_all (λ name. not (is_among name others)) names
 
+-- the name, where there is one
+abbrev pub named : Option (List ℕ) → List (List ℕ)
+named None = []
+named (Some name) = name ∷ []
+
 -- the names of those instances that have one
 abbrev pub instance_names : List Instance → List (List ℕ)
-instance_names gates = filter_map (λ gate. gate.name) gates
+instance_names gates = flat_map (λ gate. named gate.name) gates
 
--- the header's names, and then the wires that are no ports
-abbrev pub net_names : Declarations → List (List ℕ)
-net_names d = d.header ++ filter (λ name. not (is_among name d.header)) d.wires
+-- the header's names, and then the wires that are no ports, where no header name and no wire is declared twice
+unfoldable pub net_names : Declarations → Option (List (List ℕ))
+net_names d = do
+  header ← distinct d.header
+  wires ← distinct d.wires
+  Some (d.header ++ filter (λ name. not (is_among name d.header)) d.wires)
 
--- the names of the nets, where no wire, no net and no instance is declared twice, no instance has a net's name, and there are few enough
+-- the names of the instances, where none stands twice, and none is a net's
+unfoldable pub names_besides : List (List ℕ) → List Instance → Option (List (List ℕ))
+names_besides nets gates = do
+  names ← distinct (instance_names gates)
+  if none_among nets (instance_names gates) then Some names else None
+
+-- the names of the nets, where nets and instances are declared once each, and there are few enough nets
 unfoldable pub nets_of : Declarations → Option (List (List ℕ))
 nets_of d = do
-  wires ← distinct d.wires
-  nets ← distinct (net_names d)
-  instances ← distinct (instance_names d.gates)
-  if none_among nets instances && nat_le (length nets) limit then Some nets else None
+  names ← net_names d
+  nets ← distinct names
+  instances ← names_besides nets d.gates
+  if nat_le (length nets) limit then Some nets else None
 
 -- the places, counted from k, of the names that stand among the others
 abbrev pub places_from : ℕ → List (List ℕ) → List (List ℕ) → List ℕ
@@ -64,7 +78,7 @@ ports_of d = do
   header ← distinct d.header
   inputs ← distinct d.inputs
   outputs ← distinct d.outputs
-  if ports_agree header inputs outputs then Some (places_from 0 inputs header, places_from 0 outputs header) else None
+  if ports_agree d.header d.inputs d.outputs then Some (places_from 0 inputs d.header, places_from 0 outputs d.header) else None
 
 -- a gate by the places of its names, where all of them are nets
 unfoldable pub gate_of : List (List ℕ) → Instance → Option Gate

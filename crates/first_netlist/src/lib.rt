@@ -1,6 +1,7 @@
 //! The reader of the first netlist form: one flat module of nand gates.
 #![tactic(auto)]
 
+mod elaborate;
 mod fault;
 mod parse;
 mod pieces;

@@ -1,9 +1,9 @@
 //! Names in tables.
-ghost use Rattle.std.specs.Prelude.{◌≡◌, ◌<◌, ◌≤◌, ◌++◌, not, filter, length, IfOk, OnOk};
+ghost use Rattle.std.specs.Prelude.{◌≡◌, ◌<◌, ◌≤◌, ◌++◌, ◌||◌, not, filter, length, IfOk, OnOk};
 ghost use Rattle.std.specs.List.{list_all};
 ghost use Rattle.name_table.specs.Names.{is_among};
 ghost use Rattle.first_netlist.specs.Steps.{Gives};
-ghost use Rattle.first_netlist.specs.Meaning.{distinct, all_among, none_among, instance_names, places_from, limit};
+ghost use Rattle.first_netlist.specs.Meaning.{distinct, all_among, none_among, named, instance_names, places_from, limit};
 
 use crate::fault::NetlistFault;
 use crate::tree::Instance;
@@ -20,7 +20,8 @@ pub fn copy_of(alloc: Global, name: &Bytes) -> Result<Bytes, AllocError>
 
 /// The names as a table, where none stands twice.
 pub fn table_of(alloc: Global, names: &[Bytes]) -> Result<NameTable, NetlistFault>
-    ensures { Gives (λ table. table) result (distinct names.now) }
+    ensures table { Gives (λ table. table) result (distinct names.now) }
+    ensures same { IfOk result (λ table. table ≡ names.now) }
 {
     let mut table = NameTable::new(alloc);
     for name in names {
@@ -29,6 +30,14 @@ pub fn table_of(alloc: Global, names: &[Bytes]) -> Result<NameTable, NetlistFaul
         }
     }
     Ok(table)
+}
+
+/// Refuses names of which one stands twice.
+pub fn check_distinct(alloc: Global, names: &[Bytes]) -> Result<(), NetlistFault>
+    ensures { Gives (λ _. names.now) result (distinct names.now) }
+{
+    let _ = table_of(alloc, names)?;
+    Ok(())
 }
 
 /// Whether each name stands in the table.
@@ -43,6 +52,16 @@ pub fn none_among(table: &NameTable, names: &[Bytes]) -> bool
     ensures { result ≡ none_among table.now names.now }
 {
     names.iter().all(|name| !table.contains(name.as_slice()))
+}
+
+/// Whether each name stands in one of two tables.
+pub fn all_in_either(first: &NameTable, second: &NameTable, names: &[Bytes]) -> bool
+    ensures { result ≡ list_all (λ name. is_among name first.now || is_among name second.now) names.now }
+{
+    names.iter().all(|name| {
+        let name = name.as_slice();
+        first.contains(name) || second.contains(name)
+    })
 }
 
 /// Copies of the names.
@@ -73,15 +92,27 @@ pub fn push_others(
     Ok(())
 }
 
+/// Puts a copy of the name, where there is one, at the end of others.
+fn push_name(
+    alloc: Global,
+    name: &Option<Bytes>,
+    others: &mut Vec<Bytes>,
+) -> Result<(), AllocError>
+    ensures { OnOk result (others.new.items ≡ others.old.items ++ named name.now) }
+{
+    if let Some(name) = name {
+        others.push(copy_of(alloc, name)?)?;
+    }
+    Ok(())
+}
+
 /// Copies of the names of those instances that have one.
 pub fn instance_names(alloc: Global, gates: &[Instance]) -> Result<Vec<Bytes>, AllocError>
     ensures { IfOk result (λ names. names.items ≡ instance_names gates.now) }
 {
     let mut names = Vec::new(alloc);
     for gate in gates {
-        if let Some(name) = &gate.name {
-            names.push(copy_of(alloc, name)?)?;
-        }
+        push_name(alloc, &gate.name, &mut names)?;
     }
     Ok(names)
 }
