@@ -1,5 +1,5 @@
 -- The netlist that lawful declarations mean.
-use Rattle.std.specs.Prelude.{ℕ, zero, suc, Bool, true, false, not, ◌&&◌, ◌||◌, nat_le, nat_eq, if◌then◌else◌, List, [], ◌∷◌, ◌++◌, length, filter, Option, Some, None}
+use Rattle.std.specs.Prelude.{ℕ, zero, suc, Bool, true, false, not, ◌&&◌, ◌||◌, nat_le, nat_lt, nat_eq, if◌then◌else◌, List, [], ◌∷◌, ◌++◌, length, filter, Option, Some, None}
 use Rattle.std.specs.List.{flat_map, list_all, list_any}
 use Rattle.gate_net.specs.Sound.{driven_nets}
 use Rattle.gate_net.specs.declared.netlist.Gate.{Gate}
@@ -80,11 +80,17 @@ ports_of d = do
   outputs ← distinct d.outputs
   if ports_agree d.header d.inputs d.outputs then Some (places_from 0 inputs d.header, places_from 0 outputs d.header) else None
 
--- a gate by the places of its names, where all of them are nets
+-- the places of a gate's inputs, where all of them are nets, and there is one
+unfoldable pub inputs_at : List (List ℕ) → List (List ℕ) → Option (List ℕ)
+inputs_at nets names = do
+  inputs ← each (λ name. place_of name nets) names
+  if nat_lt 0 (length inputs) then Some inputs else None
+
+-- a gate by the places of its names
 unfoldable pub gate_of : List (List ℕ) → Instance → Option Gate
 gate_of nets gate = do
   output ← place_of gate.output nets
-  inputs ← each (λ name. place_of name nets) gate.inputs
+  inputs ← inputs_at nets gate.inputs
   Some (record { output = output; inputs = inputs })
 
 -- no number stands twice

@@ -33,6 +33,6 @@ unfoldable pub pieces : List ℕ → List (List ℕ)
 pieces [] = []
 pieces (byte ∷ bytes) =
     if is_name_byte byte then
-      (if starts_run bytes then onto byte (pieces bytes) else (byte ∷ []) ∷ pieces bytes)
+    (if starts_run bytes then onto byte (pieces bytes) else (byte ∷ []) ∷ pieces bytes)
     else if is_blank byte then pieces bytes
     else (byte ∷ []) ∷ pieces bytes

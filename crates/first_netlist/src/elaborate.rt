@@ -4,11 +4,12 @@ ghost use Rattle.gate_net.specs.Sound.{driven_nets};
 ghost use Rattle.name_table.specs.Names.{place_of};
 ghost use Rattle.first_netlist.specs.Steps.{Gives};
 ghost use Rattle.first_netlist.specs.Declarations.{declared};
-ghost use Rattle.first_netlist.specs.Meaning.{limit, each, net_names, names_besides, instance_names, nets_of, ports_agree, places_from, ports_of, gate_of, is_apart, meaning};
+ghost use Rattle.first_netlist.specs.Meaning.{limit, each, net_names, names_besides, instance_names, nets_of, ports_agree, places_from, ports_of, inputs_at, gate_of, is_apart, meaning};
 
 use crate::fault::NetlistFault;
 use crate::tables::{
-    all_among, all_in_either, check_distinct, copies_of, instance_names, none_among, places_among, push_others, table_of,
+    all_among, all_in_either, check_distinct, copies_of, instance_names, none_among, places_among,
+    push_others, table_of,
 };
 use crate::tree::{Instance, Module};
 use flat_net::{Bytes, NetList};
@@ -42,6 +43,20 @@ fn nets_at(alloc: Global, nets: &NameTable, names: &[Bytes]) -> Result<Vec<u32>,
     Ok(places)
 }
 
+/// The nets that a gate reads.
+#[tactic(auto, unfolding(crate::specs::Meaning::inputs_at))]
+fn inputs_at(alloc: Global, nets: &NameTable, names: &[Bytes]) -> Result<NetList, NetlistFault>
+    requires { length nets.now ≤ limit }
+    ensures { Gives (λ inputs. inputs) result (inputs_at nets.now names.now) }
+{
+    let inputs = nets_at(alloc, nets, names)?;
+    if 0 < inputs.len() {
+        Ok(NetList::from_vec(inputs))
+    } else {
+        Err(NetlistFault::Unbuilt)
+    }
+}
+
 /// The gate that an instance is.
 #[tactic(auto, unfolding(crate::specs::Meaning::gate_of))]
 fn gate_of(alloc: Global, nets: &NameTable, instance: &Instance) -> Result<Gate, NetlistFault>
@@ -49,11 +64,8 @@ fn gate_of(alloc: Global, nets: &NameTable, instance: &Instance) -> Result<Gate,
     ensures { Gives (λ gate. gate) result (gate_of nets.now instance.now) }
 {
     let output = net_at(nets, &instance.output)?;
-    let inputs = nets_at(alloc, nets, instance.inputs.as_slice())?;
-    Ok(Gate {
-        output,
-        inputs: NetList::from_vec(inputs),
-    })
+    let inputs = inputs_at(alloc, nets, instance.inputs.as_slice())?;
+    Ok(Gate { output, inputs })
 }
 
 /// The gates that the instances are.
@@ -119,11 +131,7 @@ fn net_names(alloc: Global, module: &Module) -> Result<Vec<Bytes>, NetlistFault>
 
 /// Refuses names of instances that stand twice, or are nets.
 #[tactic(auto, unfolding(crate::specs::Meaning::names_besides))]
-fn check_instances(
-    alloc: Global,
-    nets: &NameTable,
-    gates: &[Instance],
-) -> Result<(), NetlistFault>
+fn check_instances(alloc: Global, nets: &NameTable, gates: &[Instance]) -> Result<(), NetlistFault>
     ensures { Gives (λ _. instance_names gates.now) result (names_besides nets.now gates.now) }
 {
     let instances = instance_names(alloc, gates)?;
@@ -153,12 +161,7 @@ fn net_table(alloc: Global, module: &Module) -> Result<NameTable, NetlistFault>
 }
 
 /// Whether each header name is declared as an input or as an output, and no other name is.
-fn ports_agree(
-    module: &Module,
-    header: &NameTable,
-    inputs: &NameTable,
-    outputs: &NameTable,
-) -> bool
+fn ports_agree(module: &Module, header: &NameTable, inputs: &NameTable, outputs: &NameTable) -> bool
     requires header { header.now ≡ «module».now.header.items }
     requires inputs { inputs.now ≡ «module».now.inputs.items }
     requires outputs { outputs.now ≡ «module».now.outputs.items }
@@ -178,7 +181,7 @@ fn port_nets(
     outputs: &NameTable,
 ) -> Result<(Vec<u32>, Vec<u32>), AllocError>
     requires { length header.now ≤ limit }
-    ensures { IfOk result (λ nets. (nets.0.items, nets.1.items) ≡ (places_from 0 inputs.now header.now, places_from 0 outputs.now header.now)) }
+    ensures { IfOk result (λ nets. (nets.0.items ≡ places_from 0 inputs.now header.now) × (nets.1.items ≡ places_from 0 outputs.now header.now)) }
 {
     let input_nets = places_among(alloc, inputs, header)?;
     let output_nets = places_among(alloc, outputs, header)?;

@@ -5,9 +5,11 @@ mod elaborate;
 mod fault;
 mod parse;
 mod pieces;
+mod read;
 mod tables;
 mod token;
 mod tree;
 mod words;
 
 pub use fault::NetlistFault;
+pub use read::read_netlist;

@@ -153,11 +153,7 @@ fn item_at(alloc: Global, tokens: &[Token]) -> Result<(Item, &[Token]), NetlistF
 }
 
 #[tactic(auto, unfolding(crate::specs::Modules::items_at))]
-fn items_at(
-    alloc: Global,
-    mut module: Module,
-    tokens: &[Token],
-) -> Result<Module, NetlistFault>
+fn items_at(alloc: Global, mut module: Module, tokens: &[Token]) -> Result<Module, NetlistFault>
     ensures { Gives declared result (declaring (declared «module») (items_at (length tokens.now) tokens.now)) }
 {
     let mut rest = tokens;

@@ -93,11 +93,7 @@ pub fn push_others(
 }
 
 /// Puts a copy of the name, where there is one, at the end of others.
-fn push_name(
-    alloc: Global,
-    name: &Option<Bytes>,
-    others: &mut Vec<Bytes>,
-) -> Result<(), AllocError>
+fn push_name(alloc: Global, name: &Option<Bytes>, others: &mut Vec<Bytes>) -> Result<(), AllocError>
     ensures { OnOk result (others.new.items ≡ others.old.items ++ named name.now) }
 {
     if let Some(name) = name {

@@ -85,11 +85,7 @@ pub fn words_in(alloc: Global, text: &[u8]) -> Result<NameTable, AllocError>
 }
 
 /// The tokens of a text, where the given words name nothing.
-pub fn tokens_among(
-    alloc: Global,
-    words: &NameTable,
-    text: &[u8],
-) -> Result<Vec<Token>, AllocError>
+pub fn tokens_among(alloc: Global, words: &NameTable, text: &[u8]) -> Result<Vec<Token>, AllocError>
     ensures { IfOk result (λ tokens. tokens.items ≡ tokens_among words.now text.now) }
 {
     let mut tokens = Vec::new(alloc);
