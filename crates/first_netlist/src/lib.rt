@@ -13,3 +13,6 @@ mod words;
 
 pub use fault::NetlistFault;
 pub use read::read_netlist;
+
+#[cfg(test)]
+mod tests;
