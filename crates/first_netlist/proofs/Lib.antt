@@ -4,5 +4,6 @@ pub mod Each
 pub mod Places
 pub mod Same
 pub mod Sounds
+pub mod Grammar
 pub mod Loop
 pub mod Runs

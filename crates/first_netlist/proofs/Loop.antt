@@ -1,6 +1,5 @@
 -- Reading parts one after the other, as a loop does.
 use Rattle.std.proofs.Common.{◌≡◌, ℕ, suc, ◌+◌, ◌-◌, ◌<◌, true, false, List, [], ◌∷◌, ◌++◌, Option, None, Some, refl, ap, sym, ◌∙◌, append_assoc, arith}
-use Rattle.std.proofs.lemmas.List.{append-nil}
 use Rattle.first_netlist.specs.declared.fault.NetlistFault.{NetlistFault}
 use Rattle.first_netlist.specs.declared.fault.NetlistFault.TheVariants.{Memory, Unbuilt}
 use Rattle.first_netlist.specs.declared.token.Token.{Token}

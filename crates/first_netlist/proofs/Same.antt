@@ -1,5 +1,5 @@
 -- Tables of the same words make the same tokens.
-use Rattle.std.proofs.Common.{◌≡◌, ℕ, Bool, not, ◌&&◌, List, [], ◌∷◌, map, cond, refl, ap, sym, ◌∙◌}
+use Rattle.std.proofs.Common.{◌≡◌, ℕ, Bool, not, ◌&&◌, List, [], ◌∷◌, map, cond, refl, ap}
 use Rattle.std.specs.Option.{option_map_or}
 use Rattle.name_table.specs.Names.{is_among}
 use Rattle.first_netlist.specs.declared.token.Token.{Token}

@@ -1,5 +1,5 @@
 -- A netlist that declarations mean is sound.
-use Rattle.std.proofs.Common.{◌≡◌, ◌≢◌, ℕ, zero, suc, ◌+◌, ◌<◌, ◌≤◌, Bool, true, false, cond, not, ◌&&◌, leb, ltb, eqb, List, [], ◌∷◌, ◌++◌, length, get_or, map, filter, All, Option, Some, None, Result, Ok, Err, refl, sym, ap, subst, ◌∙◌, arith}
+use Rattle.std.proofs.Common.{◌≡◌, ◌≢◌, ℕ, zero, suc, ◌+◌, ◌<◌, ◌≤◌, Bool, true, false, cond, not, ◌&&◌, leb, ltb, eqb, List, [], ◌∷◌, ◌++◌, length, get_or, filter, Option, Some, None, Result, Ok, Err, refl, sym, ap, subst, ◌∙◌, arith}
 use Rattle.std.specs.List.{list_any, AllByRecursion}
 use Rattle.std.proofs.lemmas.Bool.{and_parts, both_ways, not-true, leb-true, ltb-true, eq-eqb}
 use Rattle.std.proofs.lemmas.List.{get_or_append_left, get_or-append-add, length-append, length-map}
@@ -15,7 +15,7 @@ use Rattle.std.specs.Prelude.{IfOk}
 use Rattle.first_netlist.specs.declared.fault.NetlistFault.{NetlistFault}
 use Rattle.first_netlist.specs.Steps.{◌>>=◌, Gives}
 use Rattle.first_netlist.specs.Declarations.{Declarations}
-use Rattle.first_netlist.specs.Meaning.{limit, distinct, each, instance_names, none_among, net_names, names_besides, nets_of, places_from, ports_agree, ports_of, inputs_at, gate_of, is_apart, meaning}
+use Rattle.first_netlist.specs.Meaning.{limit, distinct, each, net_names, names_besides, nets_of, places_from, ports_agree, ports_of, inputs_at, gate_of, is_apart, meaning}
 use Rattle.first_netlist.proofs.Places.{place_within}
 
 -- the value of a step that found something
@@ -26,10 +26,10 @@ bind_some None f y e = absurd cc
 abbrev netlist_with : List (List ℕ) → List ℕ → List ℕ → List Gate → Netlist
 netlist_with names inputs outputs gates = record { names = names; inputs = inputs; outputs = outputs; gates = gates }
 
-abbrev some_of : {A : Type 0} → A → Option A
+abbrev pub some_of : {A : Type 0} → A → Option A
 some_of x = Some x
 
-some_is : {A : Type 0} (x y : A) → some_of x ≡ some_of y → x ≡ y
+pub some_is : {A : Type 0} (x y : A) → some_of x ≡ some_of y → x ≡ y
 some_is x y e = cc
 
 AreNets-cons : (count n : ℕ) (ns : List ℕ) → n < count → AreNets count ns → AreNets count (n ∷ ns)

@@ -3,5 +3,6 @@ pub mod Pieces
 pub mod Words
 pub mod Declarations
 pub mod Modules
+pub mod Spelling
 pub mod Meaning
 pub mod Reading

@@ -3,7 +3,10 @@ ghost use Rattle.gate_net.specs.Sound.{IsSound};
 ghost use Rattle.name_table.specs.Names.{is_among};
 ghost use Rattle.first_netlist.specs.Steps.{Gives};
 ghost use Rattle.first_netlist.specs.Words.{reserved, tokens_of};
-ghost use Rattle.first_netlist.specs.Reading.{netlist_of};
+ghost use Rattle.first_netlist.specs.Reading.{netlist_of, IsNetlistOf};
+ghost use Rattle.first_netlist.specs.Declarations.{Tree, declarations_of};
+ghost use Rattle.first_netlist.specs.Spelling.{Spells};
+ghost use Rattle.first_netlist.specs.Meaning.{meaning};
 
 use crate::elaborate::netlist_of;
 use crate::fault::NetlistFault;
@@ -33,15 +36,27 @@ fn tokens_of(alloc: Global, text: &[u8]) -> Result<Vec<Token>, AllocError>
     tokens_among(alloc, &words, text)
 }
 
-/// The netlist of a text of the first form: one flat module of nand gates without delay, whose nets are declared.
-///
-/// `Unbuilt` comes exactly where the text is outside the form.
+/// The netlist of a text.
 #[tactic(auto, unfolding(crate::specs::Reading::netlist_of))]
-pub fn read_netlist(alloc: Global, text: &[u8]) -> Result<Netlist, NetlistFault>
+fn netlist_in(alloc: Global, text: &[u8]) -> Result<Netlist, NetlistFault>
     ensures exact { Gives (λ netlist. netlist) result (netlist_of text.now) }
     ensures sound { IfOk result IsSound }
 {
     let tokens = tokens_of(alloc, text)?;
     let module = module_of(alloc, &tokens)?;
     netlist_of(alloc, &module)
+}
+
+/// The netlist of a text of the first form: one flat module of nand gates without delay, whose nets are all declared.
+///
+/// `Unbuilt` comes exactly where the text is outside the form, unless memory runs out first.
+pub fn read_netlist(alloc: Global, text: &[u8]) -> Result<Netlist, NetlistFault>
+    ensures exact { Gives (λ netlist. netlist) result (netlist_of text.now) }
+    ensures sound { IfOk result IsSound }
+    // What is read is spelled so.
+    ensures found { IfOk result (IsNetlistOf text.now) }
+    // What is spelled so is read: its netlist where it is lawful, and else `Unbuilt`.
+    ensures only { (tree : Tree) → Spells tree (tokens_of text.now) → Gives (λ netlist. netlist) result (meaning (declarations_of tree)) }
+{
+    netlist_in(alloc, text)
 }

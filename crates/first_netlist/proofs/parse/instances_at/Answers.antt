@@ -1,4 +1,4 @@
-use Rattle.std.proofs.Common.{◌≡◌, ◌++◌, ◌∷◌, [], length, sym, ap, ◌∙◌}
+use Rattle.std.proofs.Common.{length, sym}
 use Rattle.std.proofs.lemmas.Result.{err_from_is_err_and}
 use Rattle.first_netlist.specs.Modules.{instances_at}
 use Rattle.first_netlist.proofs.Loop.{instances_go_on, instances_end, instances_fail}

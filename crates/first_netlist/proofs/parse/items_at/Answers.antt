@@ -1,6 +1,6 @@
 use Rattle.std.proofs.Common.{◌≡◌, length, false, true, sym, ◌∙◌}
 use Rattle.std.proofs.lemmas.Result.{err_from_is_err_and}
-use Rattle.first_netlist.specs.Declarations.{Declarations, declared, declaring, with_item}
+use Rattle.first_netlist.specs.Declarations.{declared, declaring, with_item}
 use Rattle.first_netlist.specs.Modules.{items_at, is_end}
 use Rattle.first_netlist.proofs.Loop.{items_go_on, items_end, items_fail}
 use Rattle.first_netlist.proofs.parse.items_at.Goals as goal

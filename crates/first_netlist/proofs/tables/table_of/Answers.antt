@@ -1,4 +1,4 @@
-use Rattle.std.proofs.Common.{◌≡◌, Bool, false, sym, ap, ◌∙◌}
+use Rattle.std.proofs.Common.{◌≡◌, false}
 use Rattle.first_netlist.proofs.Apart.{table_meets, table_whole}
 use Rattle.first_netlist.proofs.tables.table_of.Goals as goal
 
