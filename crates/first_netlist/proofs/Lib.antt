@@ -1,0 +1,9 @@
+pub mod Added
+pub mod Apart
+pub mod Each
+pub mod Places
+pub mod Same
+pub mod Sounds
+pub mod Grammar
+pub mod Loop
+pub mod Runs

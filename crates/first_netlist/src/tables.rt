@@ -1,0 +1,132 @@
+//! Names in tables.
+ghost use Rattle.std.specs.Prelude.{◌≡◌, ◌<◌, ◌≤◌, ◌++◌, ◌||◌, not, filter, length, IfOk, OnOk};
+ghost use Rattle.std.specs.List.{list_all};
+ghost use Rattle.name_table.specs.Names.{is_among};
+ghost use Rattle.first_netlist.specs.Steps.{Gives};
+ghost use Rattle.first_netlist.specs.Meaning.{distinct, all_among, none_among, named, instance_names, places_from, limit};
+
+use crate::fault::NetlistFault;
+use crate::tree::Instance;
+use flat_net::Bytes;
+use name_table::NameTable;
+use std::alloc::{AllocError, Global};
+
+/// A copy of a name.
+pub fn copy_of(alloc: Global, name: &Bytes) -> Result<Bytes, AllocError>
+    ensures { IfOk result (λ copy. copy ≡ name.now) }
+{
+    Ok(Bytes::from_vec(Vec::from_slice(alloc, name.as_slice())?))
+}
+
+/// The names as a table, where none stands twice.
+pub fn table_of(alloc: Global, names: &[Bytes]) -> Result<NameTable, NetlistFault>
+    ensures table { Gives (λ table. table) result (distinct names.now) }
+    ensures same { IfOk result (λ table. table ≡ names.now) }
+{
+    let mut table = NameTable::new(alloc);
+    for name in names {
+        if !table.add(name.as_slice())? {
+            return Err(NetlistFault::Unbuilt);
+        }
+    }
+    Ok(table)
+}
+
+/// Refuses names of which one stands twice.
+pub fn check_distinct(alloc: Global, names: &[Bytes]) -> Result<(), NetlistFault>
+    ensures { Gives (λ _. names.now) result (distinct names.now) }
+{
+    let _ = table_of(alloc, names)?;
+    Ok(())
+}
+
+/// Whether each name stands in the table.
+pub fn all_among(table: &NameTable, names: &[Bytes]) -> bool
+    ensures { result ≡ all_among table.now names.now }
+{
+    names.iter().all(|name| table.contains(name.as_slice()))
+}
+
+/// Whether no name stands in the table.
+pub fn none_among(table: &NameTable, names: &[Bytes]) -> bool
+    ensures { result ≡ none_among table.now names.now }
+{
+    names.iter().all(|name| !table.contains(name.as_slice()))
+}
+
+/// Whether each name stands in one of two tables.
+pub fn all_in_either(first: &NameTable, second: &NameTable, names: &[Bytes]) -> bool
+    ensures { result ≡ list_all (λ name. is_among name first.now || is_among name second.now) names.now }
+{
+    names.iter().all(|name| {
+        let name = name.as_slice();
+        first.contains(name) || second.contains(name)
+    })
+}
+
+/// Copies of the names.
+pub fn copies_of(alloc: Global, names: &[Bytes]) -> Result<Vec<Bytes>, AllocError>
+    ensures { IfOk result (λ copies. copies.items ≡ names.now) }
+{
+    let mut copies = Vec::new(alloc);
+    for name in names {
+        copies.push(copy_of(alloc, name)?)?;
+    }
+    Ok(copies)
+}
+
+/// Puts copies of the names that don't stand in the table at the end of others.
+pub fn push_others(
+    alloc: Global,
+    table: &NameTable,
+    names: &[Bytes],
+    others: &mut Vec<Bytes>,
+) -> Result<(), AllocError>
+    ensures { OnOk result (others.new.items ≡ others.old.items ++ filter (λ name. not (is_among name table.now)) names.now) }
+{
+    for name in names {
+        if !table.contains(name.as_slice()) {
+            others.push(copy_of(alloc, name)?)?;
+        }
+    }
+    Ok(())
+}
+
+/// Puts a copy of the name, where there is one, at the end of others.
+fn push_name(alloc: Global, name: &Option<Bytes>, others: &mut Vec<Bytes>) -> Result<(), AllocError>
+    ensures { OnOk result (others.new.items ≡ others.old.items ++ named name.now) }
+{
+    if let Some(name) = name {
+        others.push(copy_of(alloc, name)?)?;
+    }
+    Ok(())
+}
+
+/// Copies of the names of those instances that have one.
+pub fn instance_names(alloc: Global, gates: &[Instance]) -> Result<Vec<Bytes>, AllocError>
+    ensures { IfOk result (λ names. names.items ≡ instance_names gates.now) }
+{
+    let mut names = Vec::new(alloc);
+    for gate in gates {
+        push_name(alloc, &gate.name, &mut names)?;
+    }
+    Ok(names)
+}
+
+/// The places of the names that stand in the table.
+pub fn places_among(
+    alloc: Global,
+    table: &NameTable,
+    names: &[Bytes],
+) -> Result<Vec<u32>, AllocError>
+    requires { length names.now ≤ limit }
+    ensures { IfOk result (λ places. places.items ≡ places_from 0 table.now names.now) }
+{
+    let mut places = Vec::new(alloc);
+    for (place, name) in names.iter().enumerate() {
+        if table.contains(name.as_slice()) {
+            places.push(place as u32)?;
+        }
+    }
+    Ok(places)
+}
