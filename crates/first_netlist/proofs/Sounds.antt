@@ -11,7 +11,7 @@ use Rattle.gate_net.specs.declared.netlist.Gate.{Gate}
 use Rattle.gate_net.specs.declared.netlist.Netlist.{Netlist}
 use Rattle.name_table.specs.Names.{is_among, is_distinct, place_of}
 use Rattle.first_netlist.specs.declared.tree.Instance.{Instance}
-use Rattle.std.specs.Prelude.{IfOk}
+use Rattle.std.specs.Prelude.{IfOk, IsTrue}
 use Rattle.first_netlist.specs.declared.fault.NetlistFault.{NetlistFault}
 use Rattle.first_netlist.specs.Steps.{◌>>=◌, Gives}
 use Rattle.first_netlist.specs.Declarations.{Declarations}
@@ -149,6 +149,35 @@ meaning_sound d netlist e =
       one_driver = apart_right b.0.0 (driven_nets c.0) apart;
       inputs_free = λ j k left right. apart_across b.0.0 (driven_nets c.0) apart j k left (omega (arith, right, length-map c.0 (λ (gate : Gate). gate.output)));
     })
+
+distinct_holds : (names found : List (List ℕ)) → distinct names ≡ Some found → is_distinct found ≡ true
+unfolding distinct
+distinct_holds names found e =
+    let g = cond_some (is_distinct names) names found e in
+    subst (λ (ns : List (List ℕ)). is_distinct ns ≡ true) g.1 g.0
+
+nets_distinct : (d : Declarations) (nets : List (List ℕ)) → nets_of d ≡ Some nets → is_distinct nets ≡ true
+unfolding nets_of
+nets_distinct d nets e =
+    let a = bind_some (net_names d) (λ names. distinct names >>= λ found. names_besides found d.gates >>= λ instances. cond (leb (length found) limit) (Some found) None) nets e in
+    let b = bind_some (distinct a.0) (λ found. names_besides found d.gates >>= λ instances. cond (leb (length found) limit) (Some found) None) nets a.2 in
+    let c = bind_some (names_besides b.0 d.gates) (λ instances. cond (leb (length b.0) limit) (Some b.0) None) nets b.2 in
+    let g = cond_some (leb (length b.0) limit) b.0 nets c.2 in
+    subst (λ (ns : List (List ℕ)). is_distinct ns ≡ true) g.1 (distinct_holds a.0 b.0 b.1)
+
+pub meaning_distinct : (d : Declarations) (netlist : Netlist) → meaning d ≡ Some netlist → is_distinct netlist.names ≡ true
+unfolding meaning
+meaning_distinct d netlist e =
+    let made = λ (nets : List (List ℕ)) (ports : List ℕ × List ℕ) (gates : List Gate). netlist_with nets ports.0 ports.1 gates in
+    let a = bind_some (nets_of d) (λ nets. ports_of d >>= λ ports. each (gate_of nets) d.gates >>= λ gates. cond (is_apart (ports.0 ++ driven_nets gates) && leb (length gates) limit) (Some (made nets ports gates)) None) netlist e in
+    let b = bind_some (ports_of d) (λ ports. each (gate_of a.0) d.gates >>= λ gates. cond (is_apart (ports.0 ++ driven_nets gates) && leb (length gates) limit) (Some (made a.0 ports gates)) None) netlist a.2 in
+    let c = bind_some (each (gate_of a.0) d.gates) (λ gates. cond (is_apart (b.0.0 ++ driven_nets gates) && leb (length gates) limit) (Some (made a.0 b.0 gates)) None) netlist b.2 in
+    let g = cond_some (is_apart (b.0.0 ++ driven_nets c.0) && leb (length c.0) limit) (made a.0 b.0 c.0) netlist c.2 in
+    subst (λ (n : Netlist). is_distinct n.names ≡ true) g.1 (nets_distinct d a.0 a.1)
+
+pub result_distinct : (d : Declarations) (r : Result Netlist NetlistFault) → Gives (λ netlist. netlist) r (meaning d) → IfOk r (λ netlist. IsTrue (is_distinct netlist.names))
+result_distinct d (Ok netlist) given = meaning_distinct d netlist given
+result_distinct d (Err e) given = tt
 
 pub result_sound : (d : Declarations) (r : Result Netlist NetlistFault) → Gives (λ netlist. netlist) r (meaning d) → IfOk r IsSound
 result_sound d (Ok netlist) given = meaning_sound d netlist given

@@ -1,6 +1,6 @@
-ghost use Rattle.std.specs.Prelude.{◌≡◌, ℕ, List, IfOk};
+ghost use Rattle.std.specs.Prelude.{◌≡◌, ℕ, List, IfOk, IsTrue};
 ghost use Rattle.gate_net.specs.Sound.{IsSound};
-ghost use Rattle.name_table.specs.Names.{is_among};
+ghost use Rattle.name_table.specs.Names.{is_among, is_distinct};
 ghost use Rattle.first_netlist.specs.Steps.{Gives};
 ghost use Rattle.first_netlist.specs.Words.{reserved, tokens_of};
 ghost use Rattle.first_netlist.specs.Reading.{netlist_of, IsNetlistOf};
@@ -41,6 +41,7 @@ fn tokens_of(alloc: Global, text: &[u8]) -> Result<Vec<Token>, AllocError>
 fn netlist_in(alloc: Global, text: &[u8]) -> Result<Netlist, NetlistFault>
     ensures exact { Gives (λ netlist. netlist) result (netlist_of text.now) }
     ensures sound { IfOk result IsSound }
+    ensures distinct { IfOk result (λ netlist. IsTrue (is_distinct netlist.names)) }
 {
     let tokens = tokens_of(alloc, text)?;
     let module = module_of(alloc, &tokens)?;
@@ -53,6 +54,7 @@ fn netlist_in(alloc: Global, text: &[u8]) -> Result<Netlist, NetlistFault>
 pub fn read_netlist(alloc: Global, text: &[u8]) -> Result<Netlist, NetlistFault>
     ensures exact { Gives (λ netlist. netlist) result (netlist_of text.now) }
     ensures sound { IfOk result IsSound }
+    ensures distinct { IfOk result (λ netlist. IsTrue (is_distinct netlist.names)) }
     // What is read is spelled so.
     ensures found { IfOk result (IsNetlistOf text.now) }
     // What is spelled so is read: its netlist where it is lawful, and else `Unbuilt`.
