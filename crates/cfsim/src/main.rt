@@ -43,3 +43,6 @@ fn main(rt: HostRuntime) -> ExitCode {
     let status = run(&rt, rt.alloc(), words.as_slice(), &mut shelf, &mut out, &mut err, &OpenGate);
     ExitCode::from(status.code())
 }
+
+#[cfg(test)]
+mod tests;

@@ -1,10 +1,9 @@
 -- A pass over the lists of values is a pass of the machine that they stand for.
-use Rattle.std.proofs.Common.{◌≡◌, ◌≢◌, ℕ, suc, ◌+◌, ◌<◌, ◌≤◌, Bool, true, false, not, cond, List, [], ◌∷◌, ◌++◌, length, get_or, map, Option, Some, None, refl, sym, ap, ◌∙◌, subst, arith, inl, inr, eqb}
-use Rattle.std.specs.Prelude.{slice_index_or, nat_eq, nat_le, Contains, All}
-use Rattle.std.specs.List.{filter_map, list_any, range_with_len}
-use Rattle.std.proofs.lemmas.Bool.{le-leb, eqb-true, eq-eqb, cases_lt}
+use Rattle.std.proofs.Common.{◌≡◌, ◌≢◌, ℕ, suc, ◌<◌, Bool, true, false, not, cond, List, [], ◌∷◌, ◌++◌, length, get_or, map, Some, None, refl, sym, ap, ◌∙◌, subst, arith, inl, inr, eqb}
+use Rattle.std.specs.List.{range_with_len}
+use Rattle.std.proofs.lemmas.Bool.{le-leb, eq-eqb, cases_lt}
 use Rattle.std.proofs.lemmas.Bool.Decides.{eqb_tells}
-use Rattle.std.proofs.lemmas.List.{length-map, get_or-map, get_or_default, append-nil}
+use Rattle.std.proofs.lemmas.List.{length-map, get_or-map, get_or_default}
 use Rattle.std.proofs.lemmas.List.FromFn.{length-map-range_with_len, get_or-map-range_with_len}
 use Rattle.std.proofs.lemmas.List.Folds.{list_any_none, list_any_at}
 use Rattle.level_range.specs.Signal.{Signal, reads}
@@ -12,13 +11,13 @@ use Rattle.level_range.specs.declared.range.Logic.{Logic}
 use Rattle.level_range.specs.declared.range.Logic.TheVariants.{X, Z}
 use Rattle.logic_tables.specs.Fold.{fold_of}
 use Rattle.logic_tables.specs.declared.kinds.FoldKind.TheVariants.{Nand}
-use Rattle.gate_net.specs.Sound.{IsSound, AreNets, driven_nets}
+use Rattle.gate_net.specs.Sound.{IsSound, driven_nets}
 use Rattle.gate_net.specs.declared.netlist.Gate.{Gate}
 use Rattle.gate_net.specs.declared.netlist.Netlist.{Netlist}
-use Rattle.machine.specs.Machine.{Machine, ElementState, NetState, Pending, strong, fresh_element, fresh_net, element_at, net_at}
-use Rattle.machine.specs.Pass.{is_due, is_due_at, matured, taken_effect, retargeted, is_pending, same_signal, no_gate, gate_at, element_drives, input_drives, combined, settled_net, target_of, evaluated, settle, evaluate, pass}
-use Rattle.machine.specs.Shown.{Values, values_from, logic_at, same_logic, element_of, net_of, IsUndriven, IsNoInput, HaveSizes, AreShown, ArePassed, SaysDue, next_value}
-use Rattle.machine.proofs.Signals.{reads-strong, same_signal-strong, same_logic-same, same_logic-true}
+use Rattle.machine.specs.Machine.{Machine, ElementState, NetState, strong, fresh_element, fresh_net}
+use Rattle.machine.specs.Pass.{is_due, is_due_at, matured, no_gate, gate_at, element_drives, input_drives, combined, settled_net, target_of, evaluated, settle, evaluate, pass}
+use Rattle.machine.specs.Shown.{Values, values_from, logic_at, same_logic, element_of, net_of, IsUndriven, IsNoInput, AreShown, ArePassed, SaysDue}
+use Rattle.machine.proofs.Signals.{reads-strong, same_signal-strong, same_logic-true}
 use Rattle.machine.proofs.Ranges.{filter_map_none, filter_map_one, at_some_place}
 
 -- an element after its due change
@@ -39,9 +38,9 @@ evaluated_element now gate nets out next e = rw (e, same_signal-strong out next)
 
 pub ne-eqb : (a b : ℕ) → a ≢ b → eqb a b ≡ false
 ne-eqb a b ne = elim (eqb_tells a b) [
-    | inl same ↦ absurd (ne same.1)
-    | inr differs ↦ differs.0
-  ]
+  | inl same ↦ absurd (ne same.1)
+  | inr differs ↦ differs.0
+]
 
 -- a value at a test that holds, and at one that doesn't
 some_if : {Y : Type 0} (b : Bool) (y : Y) → b ≡ true → cond b (Some y) None ≡ Some y
@@ -86,13 +85,13 @@ module _ (netlist : Netlist) (sound : IsSound netlist) (old new : Values) (m : M
   driven_by : (n j : ℕ) → j < length netlist.gates → (gate_at netlist j).output ≡ n → element_drives netlist elements n ≡ strong (logic_at old.targets j) ∷ []
   driven_by n j hj e =
       filter_map_one (λ (k : ℕ). cond (eqb (gate_at netlist k).output n) (Some (get_or elements k fresh_element).out) None) 0 (length netlist.gates) j (strong (logic_at old.targets j)) (omega arith) (omega arith)
-        (some_if (eqb (gate_at netlist j).output n) (get_or elements j fresh_element).out (eq-eqb _ _ e) ∙ ap (λ (s : ElementState). Some s.out) (at_element j hj))
-        (λ k low high ne. none_if (eqb (gate_at netlist k).output n) (get_or elements k fresh_element).out (ne-eqb _ _ (λ same. one_driver j k hj (omega arith) ne (same ∙ sym e))))
+      (some_if (eqb (gate_at netlist j).output n) (get_or elements j fresh_element).out (eq-eqb _ _ e) ∙ ap (λ (s : ElementState). Some s.out) (at_element j hj))
+      (λ k low high ne. none_if (eqb (gate_at netlist k).output n) (get_or elements k fresh_element).out (ne-eqb _ _ (λ same. one_driver j k hj (omega arith) ne (same ∙ sym e))))
 
   undriven : (n : ℕ) → IsUndriven netlist n → element_drives netlist elements n ≡ []
   undriven n no_driver =
       filter_map_none (λ (k : ℕ). cond (eqb (gate_at netlist k).output n) (Some (get_or elements k fresh_element).out) None) 0 (length netlist.gates)
-        (λ k low high. none_if (eqb (gate_at netlist k).output n) (get_or elements k fresh_element).out (ne-eqb _ _ (no_driver k (omega arith))))
+      (λ k low high. none_if (eqb (gate_at netlist k).output n) (get_or elements k fresh_element).out (ne-eqb _ _ (no_driver k (omega arith))))
 
   input_is : (k : ℕ) → k < length netlist.inputs → get_or m.inputs k (strong Z) ≡ strong (logic_at old.forced k)
   input_is k h =
@@ -108,29 +107,29 @@ module _ (netlist : Netlist) (sound : IsSound netlist) (old new : Values) (m : M
   entered_by : (n j : ℕ) → j < length netlist.inputs → get_or netlist.inputs j 0 ≡ n → input_drives netlist m.inputs n ≡ strong (logic_at old.forced j) ∷ []
   entered_by n j hj e =
       filter_map_one (λ (k : ℕ). cond (eqb (get_or netlist.inputs k 0) n) (Some (get_or m.inputs k (strong Z))) None) 0 (length netlist.inputs) j (strong (logic_at old.forced j)) (omega arith) (omega arith)
-        (some_if (eqb (get_or netlist.inputs j 0) n) (get_or m.inputs j (strong Z)) (eq-eqb _ _ e) ∙ ap (λ (s : Signal). Some s) (input_is j hj))
-        (λ k low high ne. none_if (eqb (get_or netlist.inputs k 0) n) (get_or m.inputs k (strong Z)) (ne-eqb _ _ (λ same. inputs_apart j k hj (omega arith) ne (same ∙ sym e))))
+      (some_if (eqb (get_or netlist.inputs j 0) n) (get_or m.inputs j (strong Z)) (eq-eqb _ _ e) ∙ ap (λ (s : Signal). Some s) (input_is j hj))
+      (λ k low high ne. none_if (eqb (get_or netlist.inputs k 0) n) (get_or m.inputs k (strong Z)) (ne-eqb _ _ (λ same. inputs_apart j k hj (omega arith) ne (same ∙ sym e))))
 
   not_entered : (n : ℕ) → IsNoInput netlist n → input_drives netlist m.inputs n ≡ []
   not_entered n no_input =
       filter_map_none (λ (k : ℕ). cond (eqb (get_or netlist.inputs k 0) n) (Some (get_or m.inputs k (strong Z))) None) 0 (length netlist.inputs)
-        (λ k low high. none_if (eqb (get_or netlist.inputs k 0) n) (get_or m.inputs k (strong Z)) (ne-eqb _ _ (no_input k (omega arith))))
+      (λ k low high. none_if (eqb (get_or netlist.inputs k 0) n) (get_or m.inputs k (strong Z)) (ne-eqb _ _ (no_input k (omega arith))))
 
   net_signal : (n : ℕ) → n < length netlist.names → combined (element_drives netlist elements n ++ input_drives netlist m.inputs n) ≡ strong (logic_at new.seen n)
   net_signal n h =
       elim (at_some_place (λ (k : ℕ). (gate_at netlist k).output) (length netlist.gates) n) [
         | inl gate ↦
-          let value : logic_at new.seen n ≡ logic_at old.targets gate.0 = subst (λ (i : ℕ). logic_at new.seen i ≡ logic_at old.targets gate.0) gate.1.1 (passed.driven gate.0 gate.1.0) in
-          rw (driven_by n gate.0 gate.1.0 gate.1.1, value) refl
+            let value : logic_at new.seen n ≡ logic_at old.targets gate.0 = subst (λ (i : ℕ). logic_at new.seen i ≡ logic_at old.targets gate.0) gate.1.1 (passed.driven gate.0 gate.1.0) in
+            rw (driven_by n gate.0 gate.1.0 gate.1.1, value) refl
         | inr no_driver ↦
-          elim (at_some_place (λ (k : ℕ). get_or netlist.inputs k 0) (length netlist.inputs) n) [
-            | inl input ↦
-              let value : logic_at new.seen n ≡ logic_at old.forced input.0 = subst (λ (i : ℕ). logic_at new.seen i ≡ logic_at old.forced input.0) input.1.1 (passed.entered input.0 input.1.0) in
-              rw (undriven n no_driver, entered_by n input.0 input.1.0 input.1.1, value) refl
-            | inr no_input ↦
-              let value : logic_at new.seen n ≡ Z = passed.idle n h no_driver no_input ∙ shown.idle n h no_driver no_input in
-              rw (undriven n no_driver, not_entered n no_input, value) refl
-          ]
+            elim (at_some_place (λ (k : ℕ). get_or netlist.inputs k 0) (length netlist.inputs) n) [
+              | inl input ↦
+                  let value : logic_at new.seen n ≡ logic_at old.forced input.0 = subst (λ (i : ℕ). logic_at new.seen i ≡ logic_at old.forced input.0) input.1.1 (passed.entered input.0 input.1.0) in
+                  rw (undriven n no_driver, entered_by n input.0 input.1.0 input.1.1, value) refl
+              | inr no_input ↦
+                  let value : logic_at new.seen n ≡ Z = passed.idle n h no_driver no_input ∙ shown.idle n h no_driver no_input in
+                  rw (undriven n no_driver, not_entered n no_input, value) refl
+            ]
       ]
 
   nets : List NetState
@@ -182,15 +181,15 @@ pub due_shown : (netlist : Netlist) (values : Values) (m : Machine) (due : Bool)
 due_shown netlist values m true shown says =
     let k = says.some refl in
     let here : is_due_at m.time (get_or m.elements k.0 fresh_element).due ≡ true =
-        ap (λ (s : ElementState). is_due_at m.time s.due) (shown.elements k.0 k.1.0) ∙ due_element m.time (logic_at values.outs k.0) (logic_at values.targets k.0) false k.1.1 in
+    ap (λ (s : ElementState). is_due_at m.time s.due) (shown.elements k.0 k.1.0) ∙ due_element m.time (logic_at values.outs k.0) (logic_at values.targets k.0) false k.1.1 in
     list_any_at (λ (e : ElementState). is_due_at m.time e.due) m.elements k.0 fresh_element (omega (arith, shown.elements_len, k.1.0)) here
 due_shown netlist values m false shown says =
     list_any_none (λ (e : ElementState). is_due_at m.time e.due) m.elements
-      (λ k d h.
-        let lt : k < length netlist.gates = omega (arith, shown.elements_len) in
-        let here : is_due_at m.time (get_or m.elements k fresh_element).due ≡ false =
-            ap (λ (s : ElementState). is_due_at m.time s.due) (shown.elements k lt) ∙ due_element m.time (logic_at values.outs k) (logic_at values.targets k) true (says.none refl k lt) in
-        subst (λ (s : ElementState). is_due_at m.time s.due ≡ false) (get_or_default m.elements k fresh_element d h) here)
+    (λ k d h.
+    let lt : k < length netlist.gates = omega (arith, shown.elements_len) in
+    let here : is_due_at m.time (get_or m.elements k fresh_element).due ≡ false =
+    ap (λ (s : ElementState). is_due_at m.time s.due) (shown.elements k lt) ∙ due_element m.time (logic_at values.outs k) (logic_at values.targets k) true (says.none refl k lt) in
+    subst (λ (s : ElementState). is_due_at m.time s.due ≡ false) (get_or_default m.elements k fresh_element d h) here)
 
 pub same_values : (a a' b b' d d' f : List Logic) → a ≡ a' → b ≡ b' → d ≡ d' → values_from a b d f ≡ values_from a' b' d' f
 same_values a a' b b' d d' f p q r = rw (p, q, r) refl

@@ -1,5 +1,5 @@
 -- What a list gives at the places of a range.
-use Rattle.std.proofs.Common.{◌≡◌, ◌≢◌, ℕ, zero, suc, ◌+◌, ◌<◌, ◌≤◌, List, [], ◌∷◌, ◌++◌, Option, Some, None, refl, ap, ◌∙◌, sym, subst, arith, inl, inr, ◌⊎◌}
+use Rattle.std.proofs.Common.{◌≡◌, ◌≢◌, ℕ, zero, suc, ◌+◌, ◌<◌, ◌≤◌, List, [], ◌∷◌, Option, Some, None, refl, ap, sym, subst, arith, inl, inr, ◌⊎◌}
 use Rattle.std.proofs.lemmas.Bool.{cases_eq}
 use Rattle.std.specs.List.{filter_map, range_with_len}
 
@@ -15,10 +15,10 @@ filter_map_one f a zero j y low high one none = absurd (omega arith)
 filter_map_one f a (suc c) j y low high one none =
     elim (cases_eq j a) [
       | inl e ↦
-        let here : f a ≡ Some y = subst (λ (n : ℕ). f n ≡ Some y) e one in
-        rw here (ap (λ (ys : List _). y ∷ ys) (filter_map_none f (a + 1) c (λ k low' high'. none k (omega arith) (omega arith) (omega arith))))
+          let here : f a ≡ Some y = subst (λ (n : ℕ). f n ≡ Some y) e one in
+          rw here (ap (λ (ys : List _). y ∷ ys) (filter_map_none f (a + 1) c (λ k low' high'. none k (omega arith) (omega arith) (omega arith))))
       | inr ne ↦
-        rw (none a (omega arith) (omega arith) (λ e. ne (sym e))) (filter_map_one f (a + 1) c j y (omega arith) (omega arith) one (λ k low' high' ne'. none k (omega arith) (omega arith) ne'))
+          rw (none a (omega arith) (omega arith) (λ e. ne (sym e))) (filter_map_one f (a + 1) c j y (omega arith) (omega arith) one (λ k low' high' ne'. none k (omega arith) (omega arith) ne'))
     ]
 
 -- a number is found at some place, or at none
@@ -28,10 +28,10 @@ at_some_place f (suc count) n =
     elim (cases_eq (f count) n) [
       | inl e ↦ inl (count, (omega arith, e))
       | inr ne ↦ elim (at_some_place f count n) [
-          | inl w ↦ inl (w.0, (omega arith, w.1.1))
-          | inr never ↦ inr (λ k h. elim (cases_eq k count) [
-              | inl e ↦ subst (λ (j : ℕ). f j ≢ n) (sym e) ne
-              | inr other ↦ never k (omega arith)
-            ])
-        ]
+        | inl w ↦ inl (w.0, (omega arith, w.1.1))
+        | inr never ↦ inr (λ k h. elim (cases_eq k count) [
+          | inl e ↦ subst (λ (j : ℕ). f j ≢ n) (sym e) ne
+          | inr other ↦ never k (omega arith)
+        ])
+      ]
     ]

@@ -1,26 +1,24 @@
 -- Steps and times of a run.
-use Rattle.std.proofs.Common.{◌≡◌, ◌≢◌, ℕ, zero, suc, ◌+◌, ◌-◌, ◌<◌, ◌≤◌, min, Bool, true, false, not, cond, ◌⊎◌, List, [], ◌∷◌, ◌++◌, length, get_or, map, take, Option, Some, None, refl, sym, ap, ◌∙◌, subst, append_assoc, arith, inl, inr, ltb, leb}
-use Rattle.std.specs.Prelude.{◌&&◌, nat_lt, nat_le, filter, All, Contains}
-use Rattle.std.specs.Option.{option_map, option_map_or}
-use Rattle.std.specs.List.{filter_map, list_any, range_with_len}
-use Rattle.std.proofs.lemmas.Bool.{cases_lt, cases_eq, le-leb, true≢false, ltb-false, le-ltb, ltb-true, eq-eqb}
+use Rattle.std.proofs.Common.{◌≡◌, ◌≢◌, ℕ, zero, suc, ◌+◌, ◌<◌, ◌≤◌, min, Bool, true, false, not, cond, ◌⊎◌, List, [], ◌∷◌, ◌++◌, length, get_or, map, take, Option, Some, None, refl, sym, ap, ◌∙◌, subst, arith, inl, inr, ltb, leb}
+use Rattle.std.specs.Prelude.{◌&&◌, filter}
+use Rattle.std.specs.Option.{option_map}
+use Rattle.std.specs.List.{filter_map}
+use Rattle.std.proofs.lemmas.Bool.{cases_lt, cases_eq, le-leb, true≢false, ltb-true, eq-eqb}
 use Rattle.std.proofs.lemmas.Bool.Decides.{leb_tells}
-use Rattle.std.proofs.lemmas.List.{length-map, get_or-map, get_or_default, append-nil, length-append, get_or_append_left, get_or_at, get_or-append_right}
+use Rattle.std.proofs.lemmas.List.{length-map, get_or-map, get_or_default, length-append, get_or_append_left, get_or_at}
 use Rattle.std.proofs.lemmas.List.Folds.{list_any_at}
-use Rattle.level_range.specs.Signal.{Signal}
 use Rattle.level_range.specs.declared.range.Logic.{Logic}
 use Rattle.level_range.specs.declared.range.Logic.TheVariants.{X, Z}
-use Rattle.gate_net.specs.Sound.{IsSound, IsLawful, AreApart, AreNets, times_of}
+use Rattle.gate_net.specs.Sound.{IsLawful, AreApart, times_of}
 use Rattle.gate_net.specs.declared.netlist.Netlist.{Netlist}
 use Rattle.gate_net.specs.declared.stimulus.ValueLine.{ValueLine}
 use Rattle.gate_net.specs.declared.stimulus.Stimulus.{Stimulus}
-use Rattle.machine.specs.Machine.{Machine, ElementState, NetState, Pending, strong, fresh_element, fresh_net, element_at, net_at, start}
+use Rattle.machine.specs.Machine.{Machine, ElementState, Pending, strong, fresh_element, element_at}
 use Rattle.machine.specs.Pass.{is_due, is_due_at}
-use Rattle.machine.specs.Run.{begun, value_of, last_values, values_at, in_force, due_times, lesser, least, next_tick, Course, over, after_step, step, run_from, run}
-use Rattle.machine.specs.Trace.{trace, trace_from, step_text, printed_after}
-use Rattle.machine.specs.Shown.{Values, values_from, logic_at, same_logic, element_of, net_of, AreShown, HaveSizes}
+use Rattle.machine.specs.Run.{begun, value_of, last_values, values_at, due_times, lesser, least, next_tick}
+use Rattle.machine.specs.Shown.{Values, values_from, logic_at, same_logic, element_of, AreShown}
 use Rattle.machine.proofs.PassLemmas.{ne-eqb, due_element}
-use Rattle.machine.specs.Places.{IsPlace, placed_value, time_at, AreEarlier, AreUpTo, DoTimesRise, tick_after, IsQuiet}
+use Rattle.machine.specs.Places.{IsPlace, placed_value, time_at, AreUpTo, tick_after, IsQuiet}
 
 -- ---- values in force
 
@@ -44,15 +42,15 @@ time_of_line lines j d h = sym (get_or-map (λ (l : ValueLine). l.time) lines j 
 
 gt-leb : (a b : ℕ) → b < a → leb a b ≡ false
 gt-leb a b h = elim (leb_tells a b) [
-    | inl w ↦ absurd (omega (arith, w.1))
-    | inr w ↦ w.0
-  ]
+  | inl w ↦ absurd (omega (arith, w.1))
+  | inr w ↦ w.0
+]
 
 pub values_up_to : (lines : List ValueLine) (tick count : ℕ) → AreUpTo lines tick count → values_at lines tick ≡ last_values [] (take count lines)
 values_up_to lines tick count up_to =
     ap (last_values []) (filter_take (λ (line : ValueLine). leb line.time tick) lines count
-      (λ j d lt h. le-leb _ _ (rw (time_of_line lines j d h) (up_to.before j lt)))
-      (λ j d le h. gt-leb _ _ (rw (time_of_line lines j d h) (up_to.after j le h))))
+    (λ j d lt h. le-leb _ _ (rw (time_of_line lines j d h) (up_to.before j lt)))
+    (λ j d le h. gt-leb _ _ (rw (time_of_line lines j d h) (up_to.after j le h))))
 
 value_of_none : (listed : List ℕ) (values : List Logic) (n : ℕ) → ((j : ℕ) → j < length listed → get_or listed j 0 ≢ n) → value_of listed values n ≡ Z
 value_of_none [] values n h = refl
@@ -91,6 +89,7 @@ quiet_from netlist values m shown none k h = by_test (same_logic (logic_at value
   where
     due_at : (b : Bool) → same_logic (logic_at values.outs k) (logic_at values.targets k) ≡ b → is_due_at m.time (element_at m k).due ≡ not b
     due_at b e = ap (λ (s : ElementState). is_due_at m.time s.due) (shown.elements k h) ∙ due_element m.time (logic_at values.outs k) (logic_at values.targets k) b e
+
     by_test : (b : Bool) → same_logic (logic_at values.outs k) (logic_at values.targets k) ≡ b → same_logic (logic_at values.outs k) (logic_at values.targets k) ≡ true
     by_test true e = e
     by_test false e =
@@ -106,11 +105,11 @@ quiet_element now out target e = rw e refl
 pub no_due_times : (netlist : Netlist) (values : Values) (m : Machine) → AreShown netlist values m → IsQuiet netlist values → due_times m ≡ []
 no_due_times netlist values m shown quiet =
     filter_map_nothing (λ (e : ElementState). option_map (λ (p : Pending). p.at) e.due) m.elements
-      (λ k d h.
-        let lt : k < length netlist.gates = omega (arith, shown.elements_len) in
-        let here : get_or m.elements k d ≡ record { out = strong (logic_at values.outs k); due = None } =
-            get_or_default m.elements k d fresh_element h ∙ shown.elements k lt ∙ quiet_element m.time (logic_at values.outs k) (logic_at values.targets k) (quiet k lt) in
-        ap (λ (e : ElementState). option_map (λ (p : Pending). p.at) e.due) here)
+    (λ k d h.
+    let lt : k < length netlist.gates = omega (arith, shown.elements_len) in
+    let here : get_or m.elements k d ≡ record { out = strong (logic_at values.outs k); due = None } =
+    get_or_default m.elements k d fresh_element h ∙ shown.elements k lt ∙ quiet_element m.time (logic_at values.outs k) (logic_at values.targets k) (quiet k lt) in
+    ap (λ (e : ElementState). option_map (λ (p : Pending). p.at) e.due) here)
 
 pub begun_shown : (netlist : Netlist) (outs targets seen forced now : List Logic) (m : Machine) (tick : ℕ) → AreShown netlist (values_from outs targets seen forced) m → IsQuiet netlist (values_from outs targets seen forced) → length now ≡ length netlist.inputs
     → AreShown netlist (values_from outs targets seen now) (begun tick (map strong now) m)
@@ -166,8 +165,8 @@ candidate times end j d h =
     elim (cases_lt j (length times)) [
       | inl lt ↦ inl (lt, get_or_append_left times (end ∷ []) d j lt)
       | inr le ↦
-        let at : length times ≡ j = omega (arith, length-append times (end ∷ [])) in
-        inr (sym at, get_or_at times end [] d j at)
+          let at : length times ≡ j = omega (arith, length-append times (end ∷ [])) in
+          inr (sym at, get_or_at times end [] d j at)
     ]
 
 and_left : (a b : Bool) → (a && b) ≡ true → a ≡ true
@@ -197,19 +196,19 @@ module _ (netlist : Netlist) (stimulus : Stimulus) (lawful : IsLawful netlist st
   pub next_tick_end : next_tick stimulus stimulus.end m ≡ None
   next_tick_end =
       rw none (ap least (filter_none (λ t. ltb stimulus.end t && leb t stimulus.end) (times_of stimulus.lines ++ stimulus.end ∷ [])
-        (λ j d h. and_false (ltb stimulus.end (get_or (times_of stimulus.lines ++ stimulus.end ∷ []) j d)) (leb (get_or (times_of stimulus.lines ++ stimulus.end ∷ []) j d) stimulus.end) (ge-ltb stimulus.end (get_or (times_of stimulus.lines ++ stimulus.end ∷ []) j d) (elim (candidate (times_of stimulus.lines) stimulus.end j d h) [
-            | inl w ↦ rw w.1 (lawful.ended j d w.0)
-            | inr w ↦ rw w.1 (omega arith)
-          ])))))
+      (λ j d h. and_false (ltb stimulus.end (get_or (times_of stimulus.lines ++ stimulus.end ∷ []) j d)) (leb (get_or (times_of stimulus.lines ++ stimulus.end ∷ []) j d) stimulus.end) (ge-ltb stimulus.end (get_or (times_of stimulus.lines ++ stimulus.end ∷ []) j d) (elim (candidate (times_of stimulus.lines) stimulus.end j d h) [
+        | inl w ↦ rw w.1 (lawful.ended j d w.0)
+        | inr w ↦ rw w.1 (omega arith)
+      ])))))
 
   line_bound : (tick count : ℕ) → AreUpTo stimulus.lines tick count → count < length stimulus.lines → (j : ℕ) → j < length stimulus.lines → tick < time_at stimulus.lines j → time_at stimulus.lines count ≤ time_at stimulus.lines j
   line_bound tick count up_to lt j h late =
       elim (cases_lt j count) [
         | inl before ↦ absurd (omega (arith, up_to.before j before))
         | inr from ↦ elim (cases_eq j count) [
-            | inl e ↦ rw e (omega arith)
-            | inr ne ↦ omega (arith, lawful.rising count j (omega arith) h)
-          ]
+          | inl e ↦ rw e (omega arith)
+          | inr ne ↦ omega (arith, lawful.rising count j (omega arith) h)
+        ]
       ]
 
   late_at : (tick j x : ℕ) → x ≡ time_at stimulus.lines j → (ltb tick x && leb x stimulus.end) ≡ true → tick < time_at stimulus.lines j
@@ -220,24 +219,24 @@ module _ (netlist : Netlist) (stimulus : Stimulus) (lawful : IsLawful netlist st
   next_tick_before tick count h up_to =
       elim (cases_lt count (length stimulus.lines)) [
         | inl lt ↦
-          let later : tick < time_at stimulus.lines count = up_to.after count (omega arith) lt in
-          rw (none, lt-ltb count (length stimulus.lines) lt) (least_filter (λ t. ltb tick t && leb t stimulus.end) (times_of stimulus.lines ++ stimulus.end ∷ []) (time_at stimulus.lines count) count
+            let later : tick < time_at stimulus.lines count = up_to.after count (omega arith) lt in
+            rw (none, lt-ltb count (length stimulus.lines) lt) (least_filter (λ t. ltb tick t && leb t stimulus.end) (times_of stimulus.lines ++ stimulus.end ∷ []) (time_at stimulus.lines count) count
             (omega (arith, line_count, length-append (times_of stimulus.lines) (stimulus.end ∷ [])))
             (get_or_append_left (times_of stimulus.lines) (stimulus.end ∷ []) 0 count (omega (arith, line_count)))
             (and_true (ltb tick (time_at stimulus.lines count)) (leb (time_at stimulus.lines count) stimulus.end) (lt-ltb _ _ later) (le-leb _ _ (ended_at count lt)))
             (λ j hj passes. elim (candidate (times_of stimulus.lines) stimulus.end j 0 hj) [
-                | inl w ↦ rw w.1 (line_bound tick count up_to lt j (omega (arith, line_count, w.0)) (late_at tick j (get_or (times_of stimulus.lines ++ stimulus.end ∷ []) j 0) w.1 passes))
-                | inr w ↦ rw w.1 (ended_at count lt)
-              ]))
+              | inl w ↦ rw w.1 (line_bound tick count up_to lt j (omega (arith, line_count, w.0)) (late_at tick j (get_or (times_of stimulus.lines ++ stimulus.end ∷ []) j 0) w.1 passes))
+              | inr w ↦ rw w.1 (ended_at count lt)
+            ]))
         | inr le ↦
-          rw (none, ge-ltb count (length stimulus.lines) le) (least_filter (λ t. ltb tick t && leb t stimulus.end) (times_of stimulus.lines ++ stimulus.end ∷ []) stimulus.end (length (times_of stimulus.lines))
+            rw (none, ge-ltb count (length stimulus.lines) le) (least_filter (λ t. ltb tick t && leb t stimulus.end) (times_of stimulus.lines ++ stimulus.end ∷ []) stimulus.end (length (times_of stimulus.lines))
             (omega (arith, length-append (times_of stimulus.lines) (stimulus.end ∷ [])))
             (get_or_at (times_of stimulus.lines) stimulus.end [] 0 (length (times_of stimulus.lines)) refl)
             (and_true (ltb tick stimulus.end) (leb stimulus.end stimulus.end) (lt-ltb _ _ h) (le-leb _ _ (omega arith)))
             (λ j hj passes. elim (candidate (times_of stimulus.lines) stimulus.end j 0 hj) [
-                | inl w ↦
+              | inl w ↦
                   let late = late_at tick j (get_or (times_of stimulus.lines ++ stimulus.end ∷ []) j 0) w.1 passes in
                   absurd (omega (arith, up_to.before j (omega (arith, line_count, w.0)), late))
-                | inr w ↦ rw w.1 (omega arith)
-              ]))
+              | inr w ↦ rw w.1 (omega arith)
+            ]))
       ]

@@ -1,5 +1,5 @@
 -- What the loop over the steps keeps, and how a step goes on.
-use Rattle.std.proofs.Common.{◌≡◌, ℕ, zero, suc, ◌+◌, ◌-◌, ◌<◌, ◌≤◌, Bool, true, false, cond, List, [], ◌∷◌, ◌++◌, length, get_or, map, take, replicate, Option, Some, None, refl, sym, ap, ◌∙◌, subst, append_assoc, arith, inl, inr}
+use Rattle.std.proofs.Common.{◌≡◌, ℕ, zero, suc, ◌+◌, ◌-◌, ◌<◌, ◌≤◌, true, false, List, [], ◌∷◌, ◌++◌, length, get_or, map, take, replicate, Option, Some, None, refl, sym, ap, ◌∙◌, subst, append_assoc, arith, inl, inr}
 use Rattle.std.specs.Option.{option_map, option_map_or}
 use Rattle.std.proofs.lemmas.Bool.{cases_lt, cases_eq}
 use Rattle.std.proofs.lemmas.List.{append-nil, get_or_default, length-replicate, get_or-replicate, length-map}
@@ -12,7 +12,7 @@ use Rattle.gate_net.specs.declared.stimulus.ValueLine.{ValueLine}
 use Rattle.gate_net.specs.declared.stimulus.Stimulus.{Stimulus}
 use Rattle.machine.specs.Machine.{Machine, strong, fresh_element, fresh_net, start}
 use Rattle.machine.specs.Pass.{is_due}
-use Rattle.machine.specs.Run.{begun, value_of, last_values, in_force, due_times, next_tick, Course, over, after_step, step, run_from, run}
+use Rattle.machine.specs.Run.{begun, value_of, last_values, in_force, next_tick, Course, over, after_step, step, run_from, run}
 use Rattle.machine.specs.Trace.{trace, trace_from, step_text, printed_after}
 use Rattle.machine.specs.Shown.{Values, values_from, AreShown}
 use Rattle.machine.specs.Places.{IsPlace, AreEarlier, AreUpTo, tick_after, IsQuiet, FindsValues, placed_value}
@@ -120,8 +120,8 @@ module _ (limit : ℕ) (netlist : Netlist) (stimulus : Stimulus) (outs targets s
   goes_on outs' targets' seen' forced' printed' new next due some later shown quiet is printed_is =
       let rest = run_from (before.bound - 1) limit netlist stimulus next after in
       let course : run_from before.bound limit netlist stimulus tick before.machine ≡ after_step after rest =
-          ap (λ (b : ℕ). run_from b limit netlist stimulus tick before.machine) (suc_bound before.bound before.in_bound) ∙ going_on (before.bound - 1) due
-          ∙ ap (λ (o : Option ℕ). after_step after (option_map_or (λ n. run_from (before.bound - 1) limit netlist stimulus n after) o over)) some in
+      ap (λ (b : ℕ). run_from b limit netlist stimulus tick before.machine) (suc_bound before.bound before.in_bound) ∙ going_on (before.bound - 1) due
+      ∙ ap (λ (o : Option ℕ). after_step after (option_map_or (λ n. run_from (before.bound - 1) limit netlist stimulus n after) o over)) some in
       record {
         machine = after;
         last = printed_after netlist after;
@@ -146,27 +146,27 @@ begun_with limit netlist stimulus outs targets seen printed text tick before pla
     let forced = map (placed_value values) places in
     let forced_is : map strong forced ≡ in_force netlist stimulus tick = ap (λ (vs : List Logic). map strong (map (placed_value vs) places)) is ∙ finds tick count up_to in
     subst (λ (inputs : List Signal). AreShown netlist (values_from outs targets seen forced) (begun tick inputs before.machine)) forced_is
-      (begun_shown netlist outs targets seen before.forced forced before.machine tick before.shown before.quiet (length-map places (placed_value values) ∙ len))
+    (begun_shown netlist outs targets seen before.forced forced before.machine tick before.shown before.quiet (length-map places (placed_value values) ∙ len))
 
 -- the lines before the next step's time
 pub earlier_next : (netlist : Netlist) (stimulus : Stimulus) (tick count : ℕ) → IsLawful netlist stimulus → tick < stimulus.end → AreUpTo stimulus.lines tick count → AreEarlier stimulus.lines (tick_after stimulus.lines count stimulus.end) count
 earlier_next netlist stimulus tick count lawful h up_to =
     elim (cases_lt count (length stimulus.lines)) [
       | inl lt ↦
-        rw (lt-ltb count (length stimulus.lines) lt) record {
-          few = up_to.few;
-          before = λ j hj. omega (arith, up_to.before j hj, up_to.after count (omega arith) lt);
-          after = λ j le hj. elim (cases_eq j count) [
+          rw (lt-ltb count (length stimulus.lines) lt) record {
+            few = up_to.few;
+            before = λ j hj. omega (arith, up_to.before j hj, up_to.after count (omega arith) lt);
+            after = λ j le hj. elim (cases_eq j count) [
               | inl e ↦ rw e (omega arith)
               | inr ne ↦ omega (arith, lawful.rising count j (omega arith) hj)
             ];
-        }
+          }
       | inr le ↦
-        rw (ge-ltb count (length stimulus.lines) le) record {
-          few = up_to.few;
-          before = λ j hj. omega (arith, up_to.before j hj);
-          after = λ j le' hj. absurd (omega arith);
-        }
+          rw (ge-ltb count (length stimulus.lines) le) record {
+            few = up_to.few;
+            before = λ j hj. omega (arith, up_to.before j hj);
+            after = λ j le' hj. absurd (omega arith);
+          }
     ]
 
 pub later_next : (netlist : Netlist) (stimulus : Stimulus) (tick count : ℕ) → IsLawful netlist stimulus → tick < stimulus.end → AreUpTo stimulus.lines tick count → (tick < tick_after stimulus.lines count stimulus.end) × (tick_after stimulus.lines count stimulus.end ≤ stimulus.end)
@@ -193,4 +193,4 @@ pub finds_values : (netlist : Netlist) (stimulus : Stimulus) (by_net places : Li
     → ((n : ℕ) → n < length netlist.names → IsPlace stimulus.inputs (length stimulus.inputs) n (get_or by_net n None)) → places ≡ map (λ n. get_or by_net n None) netlist.inputs → FindsValues netlist stimulus places
 finds_values netlist stimulus by_net places sound lawful found is tick count up_to =
     rw is (forced_are stimulus.inputs (last_values [] (take count stimulus.lines)) by_net netlist.inputs lawful.apart (λ k h. found (get_or netlist.inputs k 0) (sound.inputs k h))
-      ∙ ap (λ (vs : List Logic). map (λ n. strong (value_of stimulus.inputs vs n)) netlist.inputs) (sym (values_up_to stimulus.lines tick count up_to)))
+    ∙ ap (λ (vs : List Logic). map (λ n. strong (value_of stimulus.inputs vs n)) netlist.inputs) (sym (values_up_to stimulus.lines tick count up_to)))

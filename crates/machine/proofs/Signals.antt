@@ -1,5 +1,5 @@
 -- Strong signals are told apart by their logic values.
-use Rattle.std.proofs.Common.{◌≡◌, ℕ, Bool, true, false, refl}
+use Rattle.std.proofs.Common.{◌≡◌, true, refl}
 use Rattle.std.specs.Str.{bytes_eq}
 use Rattle.level_range.specs.Signal.{reads, shown}
 use Rattle.level_range.specs.declared.range.Logic.{Logic}

@@ -1,5 +1,5 @@
 -- Passes of a step, one after the other.
-use Rattle.std.proofs.Common.{◌≡◌, ℕ, zero, suc, ◌+◌, ◌-◌, ◌<◌, ◌≤◌, Bool, true, false, cond, refl, sym, ap, ◌∙◌, arith}
+use Rattle.std.proofs.Common.{◌≡◌, ℕ, zero, suc, ◌-◌, ◌<◌, Bool, true, false, cond, refl, ◌∙◌, arith}
 use Rattle.gate_net.specs.declared.netlist.Netlist.{Netlist}
 use Rattle.machine.specs.Machine.{Machine}
 use Rattle.machine.specs.Pass.{is_due, pass, evaluate, settle}

@@ -1,16 +1,16 @@
 -- The lines of a step, place by place.
-use Rattle.std.proofs.Common.{◌≡◌, ℕ, zero, suc, ◌+◌, ◌<◌, ◌≤◌, Bool, true, false, cond, List, [], ◌∷◌, ◌++◌, length, get_or, map, Option, Some, None, refl, sym, ap, ◌∙◌, append_assoc, arith, inl, inr}
+use Rattle.std.proofs.Common.{◌≡◌, ℕ, zero, suc, ◌+◌, ◌<◌, List, ◌++◌, length, get_or, Option, Some, None, refl, sym, ap, ◌∙◌, append_assoc, arith, inl, inr}
 use Rattle.std.specs.Option.{option_map}
 use Rattle.std.specs.List.{flat_map, range_with_len}
 use Rattle.std.proofs.lemmas.Bool.{cases_lt}
-use Rattle.std.proofs.lemmas.List.{append-nil, get_or_past, get_or_default}
+use Rattle.std.proofs.lemmas.List.{append-nil, get_or_past}
 use Rattle.std.proofs.lemmas.List.FromFn.{length-map-range_with_len, get_or-map-range_with_len}
 use Rattle.level_range.specs.Signal.{shown}
 use Rattle.level_range.specs.declared.range.Logic.{Logic}
 use Rattle.gate_net.specs.declared.netlist.Netlist.{Netlist}
-use Rattle.machine.specs.Machine.{Machine, NetState, strong, net_at}
-use Rattle.machine.specs.Shown.{logic_at, same_logic, net_of}
-use Rattle.machine.specs.Trace.{trace_line, output_at, name_of, text_at, is_printed, line_at, places, step_text, printed_after}
+use Rattle.machine.specs.Machine.{Machine, NetState, strong}
+use Rattle.machine.specs.Shown.{logic_at}
+use Rattle.machine.specs.Trace.{output_at, name_of, text_at, is_printed, line_at, printed_after}
 use Rattle.machine.specs.PrintedPlaces.{is_last, line_of, ArePrinted, IsStep}
 use Rattle.machine.proofs.Signals.{bytes_eq-shown}
 
@@ -44,12 +44,12 @@ pub printed_is : (netlist : Netlist) (tick : ℕ) (seen : List Logic) (printed n
 printed_is netlist tick seen printed now m last step len in_range values j =
     elim (cases_lt j (length netlist.outputs)) [
       | inl h ↦
-        get_or-map-range_with_len (λ (k : ℕ). Some (text_at netlist m k)) 0 (length netlist.outputs) j j None h (omega arith)
-        ∙ ap (λ (t : List ℕ). Some t) (text_is netlist tick seen printed m last j step (in_range j h))
-        ∙ sym (ap (option_map (λ v. shown (strong v))) (values j h))
+          get_or-map-range_with_len (λ (k : ℕ). Some (text_at netlist m k)) 0 (length netlist.outputs) j j None h (omega arith)
+          ∙ ap (λ (t : List ℕ). Some t) (text_is netlist tick seen printed m last j step (in_range j h))
+          ∙ sym (ap (option_map (λ v. shown (strong v))) (values j h))
       | inr h ↦
-        get_or_past (printed_after netlist m) j None (omega (arith, length-map-range_with_len (λ (k : ℕ). Some (text_at netlist m k)) 0 (length netlist.outputs)))
-        ∙ sym (ap (option_map (λ v. shown (strong v))) (get_or_past now j None (omega arith)))
+          get_or_past (printed_after netlist m) j None (omega (arith, length-map-range_with_len (λ (k : ℕ). Some (text_at netlist m k)) 0 (length netlist.outputs)))
+          ∙ sym (ap (option_map (λ v. shown (strong v))) (get_or_past now j None (omega arith)))
     ]
 
 -- a step of the loop over the places
@@ -60,7 +60,7 @@ pub lines_more : (netlist : Netlist) (tick : ℕ) (seen : List Logic) (printed n
     → new ≡ before ++ flat_map (line_at netlist m last) (range_with_len 0 (j + 1))
 lines_more netlist tick seen printed now m last j before text new step h same so_far is =
     let line : line_at netlist m last j ≡ line_of (get_or now j None) tick (name_of netlist (output_at netlist j)) (logic_at seen (output_at netlist j)) =
-        line_is netlist tick seen printed m last j step h ∙ ap (λ (l : Option Logic). line_of l tick (name_of netlist (output_at netlist j)) (logic_at seen (output_at netlist j))) (sym same) in
+    line_is netlist tick seen printed m last j step h ∙ ap (λ (l : Option Logic). line_of l tick (name_of netlist (output_at netlist j)) (logic_at seen (output_at netlist j))) (sym same) in
     let zero_plus : 0 + j ≡ j = omega arith in
     is
     ∙ ap (λ (xs : List ℕ). xs ++ line_of (get_or now j None) tick (name_of netlist (output_at netlist j)) (logic_at seen (output_at netlist j))) so_far

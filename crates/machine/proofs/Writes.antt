@@ -1,5 +1,5 @@
 -- A loop that writes values at places that are apart.
-use Rattle.std.proofs.Common.{◌≡◌, ◌≢◌, ℕ, ◌+◌, ◌<◌, ◌≤◌, Bool, true, false, not, List, [], ◌∷◌, ◌++◌, length, get_or, take, refl, sym, ap, ◌∙◌, arith, inl, inr}
+use Rattle.std.proofs.Common.{◌≡◌, ◌≢◌, ℕ, ◌+◌, ◌<◌, Bool, true, false, not, List, [], ◌∷◌, ◌++◌, length, get_or, take, refl, sym, ap, ◌∙◌, arith, inl, inr}
 use Rattle.std.proofs.Math.ListN.{set}
 use Rattle.std.proofs.lemmas.Bool.{cases_eq, true≢false}
 use Rattle.std.proofs.lemmas.List.{get_or-set_same, get_or-set_other, get_or-map, take_more, take_more_set}
@@ -25,9 +25,9 @@ apart_at nets i j apart h lt = apart j i lt h
 pub write_more : (nets : List ℕ) (values seen : List Logic) (i : ℕ) (v : Logic) → AreApart nets → i < length nets → get_or nets i 0 < length seen → v ≡ logic_at values i → AreWritten nets values seen i → AreWritten nets values (set seen (get_or nets i 0) v) (i + 1)
 write_more nets values seen i v apart h fits is so_far = record {
   each = λ j lt. elim (cases_eq j i) [
-      | inl e ↦ rw (e) (get_or-set_same seen (get_or nets i 0) v _ fits ∙ is)
-      | inr ne ↦ get_or-set_other seen (get_or nets i 0) (get_or nets j 0) v _ (apart_at nets i j apart h (omega arith)) ∙ so_far.each j (omega arith)
-    ];
+    | inl e ↦ rw (e) (get_or-set_same seen (get_or nets i 0) v _ fits ∙ is)
+    | inr ne ↦ get_or-set_other seen (get_or nets i 0) (get_or nets j 0) v _ (apart_at nets i j apart h (omega arith)) ∙ so_far.each j (omega arith)
+  ];
 }
 
 pub others_more : (nets : List ℕ) (old seen : List Logic) (i : ℕ) (v : Logic) → AreOthersKept nets old seen i → AreOthersKept nets old (set seen (get_or nets i 0) v) (i + 1)
@@ -74,9 +74,9 @@ pub says_same : (due : Bool) (outs targets : List Logic) (i : ℕ) (v : Logic) �
 says_same due outs targets i v h e so_far = record {
   some = λ is. let w = so_far.some is in (w.0, (omega (arith, w.1.0), same_at outs targets i w.0 v false (omega (arith, w.1.0)) w.1.1));
   none = λ is j lt. elim (cases_eq j i) [
-      | inl same ↦ rw same (new_at outs targets i v true h e)
-      | inr ne ↦ same_at outs targets i j v true ne (so_far.none is j (omega arith))
-    ];
+    | inl same ↦ rw same (new_at outs targets i v true h e)
+    | inr ne ↦ same_at outs targets i j v true ne (so_far.none is j (omega arith))
+  ];
 }
 
 pub differs_if : (a b v : Logic) (r : Bool) → a ≡ v → r ≡ not (same_logic a b) → r ≡ true → same_logic v b ≡ false

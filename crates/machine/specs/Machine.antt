@@ -1,5 +1,5 @@
 -- Machines: plain data, with one state for each element and each net.
-use Rattle.std.specs.Prelude.{ℕ, Bool, false, List, length, map, replicate, slice_index, slice_index_or, Option, None}
+use Rattle.std.specs.Prelude.{ℕ, Bool, false, List, length, replicate, slice_index_or, Option, None}
 use Rattle.level_range.specs.Signal.{Signal, span_of}
 use Rattle.level_range.specs.declared.range.Logic.{Logic}
 use Rattle.level_range.specs.declared.range.Logic.TheVariants.{X, Z}

@@ -1,14 +1,14 @@
 -- One pass over all cells of a machine.
-use Rattle.std.specs.Prelude.{ℕ, suc, ◌+◌, ◌-◌, ◌^◌, nat_eq, nat_le, min, Bool, true, false, ◌&&◌, List, [], ◌∷◌, ◌++◌, length, map, slice_index, slice_index_or, Option, Some, None, if◌then◌else◌}
+use Rattle.std.specs.Prelude.{ℕ, ◌+◌, ◌-◌, ◌^◌, nat_eq, nat_le, min, Bool, true, false, ◌&&◌, List, [], ◌∷◌, ◌++◌, length, map, slice_index, slice_index_or, Option, Some, None, if◌then◌else◌}
 use Rattle.std.specs.Ordering.{int_eq}
 use Rattle.std.specs.List.{filter_map, list_any, range_with_len}
-use Rattle.level_range.specs.Signal.{Signal, reads, span_of}
+use Rattle.level_range.specs.Signal.{Signal, reads}
 use Rattle.level_range.specs.declared.range.Logic.TheVariants.{Z}
 use Rattle.logic_tables.specs.Fold.{fold_of}
 use Rattle.logic_tables.specs.declared.kinds.FoldKind.TheVariants.{Nand}
 use Rattle.gate_net.specs.declared.netlist.Gate.{Gate}
 use Rattle.gate_net.specs.declared.netlist.Netlist.{Netlist}
-use Rattle.machine.specs.Machine.{Machine, ElementState, NetState, Pending, strong, fresh_element, fresh_net, element_at, net_at}
+use Rattle.machine.specs.Machine.{Machine, ElementState, NetState, Pending, strong, fresh_element, fresh_net, element_at}
 
 -- whether a change is pending for the time or an earlier one
 abbrev pub is_due_at : ℕ → Option Pending → Bool

@@ -1,7 +1,7 @@
 -- How the plain run finds the values in force and the times of its steps.
-use Rattle.std.specs.Prelude.{◌≡◌, ◌≢◌, ℕ, ◌<◌, ◌≤◌, Bool, true, List, [], length, map, take, slice_index, slice_index_or, Option, Some, None, if◌then◌else◌, nat_lt}
+use Rattle.std.specs.Prelude.{◌≡◌, ◌≢◌, ℕ, ◌<◌, ◌≤◌, true, List, [], length, map, take, slice_index, Option, Some, None, if◌then◌else◌, nat_lt}
 use Rattle.level_range.specs.declared.range.Logic.{Logic}
-use Rattle.level_range.specs.declared.range.Logic.TheVariants.{X, Z}
+use Rattle.level_range.specs.declared.range.Logic.TheVariants.{Z}
 use Rattle.gate_net.specs.Sound.{times_of}
 use Rattle.gate_net.specs.declared.netlist.Netlist.{Netlist}
 use Rattle.gate_net.specs.declared.stimulus.ValueLine.{ValueLine}

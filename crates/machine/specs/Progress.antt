@@ -6,7 +6,7 @@ use Rattle.gate_net.specs.declared.stimulus.Stimulus.{Stimulus}
 use Rattle.machine.specs.Machine.{Machine}
 use Rattle.machine.specs.Run.{run_from, run}
 use Rattle.machine.specs.Trace.{trace, trace_from}
-use Rattle.machine.specs.Shown.{Values, values_from, AreShown}
+use Rattle.machine.specs.Shown.{values_from, AreShown}
 use Rattle.machine.specs.Places.{IsQuiet}
 use Rattle.machine.specs.PrintedPlaces.{ArePrinted}
 

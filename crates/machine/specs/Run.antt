@@ -1,5 +1,5 @@
 -- Time steps and runs.
-use Rattle.std.specs.Prelude.{ℕ, zero, suc, ◌+◌, ◌-◌, nat_eq, nat_lt, nat_le, min, Bool, true, false, ◌&&◌, List, [], ◌∷◌, ◌++◌, map, filter, slice_index_or, Option, Some, None, if◌then◌else◌}
+use Rattle.std.specs.Prelude.{ℕ, zero, suc, ◌+◌, ◌-◌, nat_eq, nat_lt, nat_le, min, ◌&&◌, List, [], ◌∷◌, ◌++◌, map, filter, Option, Some, None, if◌then◌else◌}
 use Rattle.std.specs.Option.{option_map, option_map_or}
 use Rattle.std.specs.List.{filter_map}
 use Rattle.level_range.specs.Signal.{Signal}
@@ -9,7 +9,7 @@ use Rattle.gate_net.specs.Sound.{times_of}
 use Rattle.gate_net.specs.declared.netlist.Netlist.{Netlist}
 use Rattle.gate_net.specs.declared.stimulus.ValueLine.{ValueLine}
 use Rattle.gate_net.specs.declared.stimulus.Stimulus.{Stimulus}
-use Rattle.machine.specs.Machine.{Machine, ElementState, Pending, strong, start}
+use Rattle.machine.specs.Machine.{Machine, Pending, strong, start}
 use Rattle.machine.specs.Pass.{is_due, pass}
 
 -- further passes while something is due, up to a number of them

@@ -1,9 +1,9 @@
 -- The text of a trace.
-use Rattle.std.specs.Prelude.{ℕ, Bool, true, false, List, [], ◌∷◌, ◌++◌, length, map, slice_index, slice_index_or, Option, Some, None, if◌then◌else◌, codes}
+use Rattle.std.specs.Prelude.{ℕ, Bool, false, List, [], ◌∷◌, ◌++◌, length, map, slice_index, slice_index_or, Option, Some, None, if◌then◌else◌}
 use Rattle.std.specs.Fmt.{decimal}
 use Rattle.std.specs.List.{flat_map, range_with_len}
 use Rattle.std.specs.Str.{bytes_eq}
-use Rattle.level_range.specs.Signal.{Signal, shown}
+use Rattle.level_range.specs.Signal.{shown}
 use Rattle.gate_net.specs.declared.netlist.Netlist.{Netlist}
 use Rattle.machine.specs.Machine.{Machine, net_at}
 

@@ -1,8 +1,8 @@
-use Rattle.std.proofs.Common.{◌≡◌, ◌<◌, length, get_or, arith, ap, ◌∙◌, subst, sym, Bool, false}
+use Rattle.std.proofs.Common.{◌<◌, length, arith, ap, ◌∙◌}
 use Rattle.std.proofs.lemmas.List.{get_or_default, get_or_read}
 use Rattle.gate_net.specs.declared.netlist.Gate.{Gate}
 use Rattle.machine.specs.Pass.{no_gate}
-use Rattle.machine.specs.Shown.{next_value, same_logic, logic_at, SaysDue}
+use Rattle.machine.specs.Shown.{next_value}
 use Rattle.machine.proofs.Writes.{targets_more, says_differs, says_same, differs_if, same_if}
 use Rattle.machine.proofs.phases.evaluate.Goals as goal
 use Rattle.machine.proofs.phases.evaluate.Goals.{then-differ, else-differ}
@@ -16,7 +16,7 @@ loop-k-preserved c =
     record {
       targets = targets_more c.args.gates.now c.args.seen.now c.loop-k.targets c.loop-k.k c.in_ok-target.target h-targets value c.loop-k.invariant.targets;
       due = elim c.if-differ.branch [
-          | then-differ w ↦ rw w.due-is (says_differs c.args.outs.now c.loop-k.targets c.loop-k.k c.in_ok-target.target h-targets (differs_if _ _ _ c.differ.result out c.differ.ensures w.if-differ.true))
-          | else-differ w ↦ rw w.due-is (says_same c.loop-k.due c.args.outs.now c.loop-k.targets c.loop-k.k c.in_ok-target.target h-targets (same_if _ _ _ c.differ.result out c.differ.ensures w.if-differ.false) c.loop-k.invariant.due)
-        ];
+        | then-differ w ↦ rw w.due-is (says_differs c.args.outs.now c.loop-k.targets c.loop-k.k c.in_ok-target.target h-targets (differs_if _ _ _ c.differ.result out c.differ.ensures w.if-differ.true))
+        | else-differ w ↦ rw w.due-is (says_same c.loop-k.due c.args.outs.now c.loop-k.targets c.loop-k.k c.in_ok-target.target h-targets (same_if _ _ _ c.differ.result out c.differ.ensures w.if-differ.false) c.loop-k.invariant.due)
+      ];
     }

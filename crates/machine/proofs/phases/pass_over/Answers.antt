@@ -1,4 +1,4 @@
-use Rattle.std.proofs.Common.{◌≡◌, ℕ, ◌<◌, length, get_or, arith, refl, sym, ◌∙◌}
+use Rattle.std.proofs.Common.{get_or, arith, refl, sym, ◌∙◌}
 use Rattle.machine.proofs.Writes.{driven_at}
 use Rattle.machine.proofs.phases.pass_over.Goals as goal
 

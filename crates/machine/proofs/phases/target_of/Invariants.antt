@@ -1,4 +1,4 @@
-use Rattle.std.proofs.Common.{◌≡◌, map, take, get_or}
+use Rattle.std.proofs.Common.{◌≡◌, map, take}
 use Rattle.machine.specs.Shown.{logic_at}
 use Rattle.machine.proofs.phases.target_of.Given as goal
 

@@ -1,4 +1,3 @@
-use Rattle.std.proofs.Common.{◌≡◌, ◌<◌, ℕ, List, length, get_or, map, Option, None, arith, sym, ap, ◌∙◌, subst}
 use Rattle.machine.proofs.RunState.{listed_in_range, finds_values}
 use Rattle.machine.proofs.run.listed_places.Goals as goal
 

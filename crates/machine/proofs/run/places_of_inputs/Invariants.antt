@@ -1,4 +1,4 @@
-use Rattle.std.proofs.Common.{◌≡◌, ℕ, map, take, get_or, None}
+use Rattle.std.proofs.Common.{◌≡◌, map, take, get_or, None}
 use Rattle.machine.proofs.run.places_of_inputs.Given as goal
 
 abbrev pub invariant-loop-net : goal.invariant-loop-net

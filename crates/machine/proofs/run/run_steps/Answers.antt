@@ -1,14 +1,13 @@
-use Rattle.std.proofs.Common.{◌≡◌, ◌<◌, ◌≤◌, ℕ, List, length, map, take, [], ◌++◌, Bool, true, false, Some, None, arith, sym, ap, ◌∙◌, subst}
+use Rattle.std.proofs.Common.{◌≡◌, ◌<◌, ℕ, List, map, take, [], false, Some, None, arith, sym, ap, ◌∙◌, subst}
 use Rattle.gate_net.specs.declared.stimulus.ValueLine.{ValueLine}
 use Rattle.level_range.specs.declared.range.Logic.{Logic}
 use Rattle.machine.specs.Machine.{Machine}
 use Rattle.machine.specs.Pass.{is_due}
-use Rattle.machine.specs.Run.{begun, in_force, last_values, due_times, next_tick, step}
+use Rattle.machine.specs.Run.{begun, in_force, last_values, due_times, next_tick}
 use Rattle.machine.specs.Shown.{AreShown, with_forced}
 use Rattle.machine.specs.StateValues.{values_of}
 use Rattle.machine.specs.Places.{AreUpTo, placed_value, IsQuiet, tick_after}
-use Rattle.machine.specs.Trace.{step_text, printed_after}
-use Rattle.machine.specs.PrintedPlaces.{IsStep, ArePrinted}
+use Rattle.machine.specs.PrintedPlaces.{IsStep}
 use Rattle.machine.proofs.StepLemmas.{step_time}
 use Rattle.machine.proofs.RunLemmas.{quiet_from, no_due_times, next_tick_end, next_tick_before}
 use Rattle.machine.proofs.RunState.{after, begun_with, earlier_next, later_next, step_is, text_oscillated, tick_oscillated, text_over, tick_over, goes_on}
@@ -24,7 +23,7 @@ values_are c = c.values_before.ensures ∙ ap (λ (lines : List ValueLine). last
 begins : (c : In_ok-due) → AreShown c.args.netlist.now (with_forced (values_of c.steps.state) (map (placed_value c.values_before.result.now) c.args.places.now)) (begun c.steps.tick (in_force c.args.netlist.now c.args.stimulus.now c.steps.tick) c.steps.invariant.state.machine)
 begins c =
     begun_with c.args.limit c.args.netlist.now c.args.stimulus.now c.steps.state.outs.items c.steps.state.targets.items c.steps.state.seen.items c.steps.printed c.steps.text.items c.steps.tick c.steps.invariant.state
-      c.args.places.now c.lines_up_to-at.result c.values_before.result.now c.requires.places (up_to c) (values_are c) c.requires.places_size
+    c.args.places.now c.lines_up_to-at.result c.values_before.result.now c.requires.places (up_to c) (values_are c) c.requires.places_size
 
 -- the machine after the step
 abbrev stepped : In_ok-due → Machine
@@ -42,7 +41,7 @@ quiet c none = quiet_from c.args.netlist.now (values_of c.step_with.new.self) (s
 step_ended : (c : In_ok-due) → IsStep c.args.netlist.now c.steps.tick c.step_with.new.self.seen.items c.steps.printed (stepped c) c.steps.invariant.state.last
 step_ended c =
     step_is c.args.limit c.args.netlist.now c.args.stimulus.now c.steps.state.outs.items c.steps.state.targets.items c.steps.state.seen.items c.steps.printed c.steps.text.items c.steps.tick c.steps.invariant.state c.steps.invariant.within
-      (values_of c.step_with.new.self) (shows c) (step_time c.args.limit c.args.netlist.now (begun c.steps.tick (in_force c.args.netlist.now c.args.stimulus.now c.steps.tick) c.steps.invariant.state.machine))
+    (values_of c.step_with.new.self) (shows c) (step_time c.args.limit c.args.netlist.now (begun c.steps.tick (in_force c.args.netlist.now c.args.stimulus.now c.steps.tick) c.steps.invariant.state.machine))
 
 pub returns-then-due-clause-trace : goal.returns-then-due-clause-trace
 returns-then-due-clause-trace c =
@@ -72,20 +71,20 @@ pub returns-then-tick-stimulus-clause-trace : goal.returns-then-tick-stimulus-cl
 returns-then-tick-stimulus-clause-trace c =
     let d = (goal.at.returns-then-tick-stimulus-clause-trace c).In_ok-due in
     text_over c.args.limit c.args.netlist.now c.args.stimulus.now c.steps.state.outs.items c.steps.state.targets.items c.steps.state.seen.items c.steps.printed c.steps.text.items c.steps.tick c.steps.invariant.state c.steps.invariant.within
-      c.push_step.new.text.items (due_is d ∙ c.if-due.false) (ended_here d c.if-due.false c.if-tick-stimulus.true) (c.in_ok-push_step.ensures.text (stepped d) c.steps.invariant.state.last (step_seen d c.as_slice.result.now c.as_slice.ensures.value))
+    c.push_step.new.text.items (due_is d ∙ c.if-due.false) (ended_here d c.if-due.false c.if-tick-stimulus.true) (c.in_ok-push_step.ensures.text (stepped d) c.steps.invariant.state.last (step_seen d c.as_slice.result.now c.as_slice.ensures.value))
 
 pub returns-then-tick-stimulus-clause-oscillated : goal.returns-then-tick-stimulus-clause-oscillated
 returns-then-tick-stimulus-clause-oscillated c =
     let d = (goal.at.returns-then-tick-stimulus-clause-oscillated c).In_ok-due in
     tick_over c.args.limit c.args.netlist.now c.args.stimulus.now c.steps.state.outs.items c.steps.state.targets.items c.steps.state.seen.items c.steps.printed c.steps.text.items c.steps.tick c.steps.invariant.state c.steps.invariant.within
-      (due_is d ∙ c.if-due.false) (ended_here d c.if-due.false c.if-tick-stimulus.true)
+    (due_is d ∙ c.if-due.false) (ended_here d c.if-due.false c.if-tick-stimulus.true)
 
 pub steps-preserved : goal.steps-preserved
 steps-preserved c =
     let d = (goal.at.steps-preserved c).In_ok-due in
     let before : c.steps.tick < c.args.stimulus.now.end = omega (arith, c.steps.invariant.within, c.if-tick-stimulus.false) in
     let next_is : c.next_tick-tick.result ≡ tick_after c.args.stimulus.now.lines c.lines_up_to-at.result c.args.stimulus.now.end =
-        c.next_tick-tick.ensures ∙ ap (λ (lines : List ValueLine). tick_after lines c.lines_up_to-at.result c.args.stimulus.now.end) c.as_slice-lines.ensures in
+    c.next_tick-tick.ensures ∙ ap (λ (lines : List ValueLine). tick_after lines c.lines_up_to-at.result c.args.stimulus.now.end) c.as_slice-lines.ensures in
     let later = later_next c.args.netlist.now c.args.stimulus.now c.steps.tick c.lines_up_to-at.result c.requires.lawful before (up_to d) in
     rw next_is record {
       state = goes_on c.args.limit c.args.netlist.now c.args.stimulus.now c.steps.state.outs.items c.steps.state.targets.items c.steps.state.seen.items c.steps.printed c.steps.text.items c.steps.tick c.steps.invariant.state c.steps.invariant.within

@@ -1,4 +1,4 @@
-use Rattle.std.proofs.Common.{◌≡◌, ◌-◌, ◌+◌, length, take, [], arith, sym, ap, ◌∙◌}
+use Rattle.std.proofs.Common.{◌≡◌, ◌-◌, ◌+◌, take, [], arith, sym, ap, ◌∙◌}
 use Rattle.machine.specs.Run.{last_values}
 use Rattle.machine.proofs.RunLemmas.{last_values-take}
 use Rattle.machine.proofs.run.values_before.Goals as goal

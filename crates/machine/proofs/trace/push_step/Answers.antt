@@ -1,11 +1,10 @@
-use Rattle.std.proofs.Common.{◌≡◌, ℕ, ◌+◌, ◌<◌, ◌≤◌, List, [], ◌++◌, length, get_or, Option, Some, None, refl, sym, ap, ◌∙◌, arith, inl, inr, subst}
-use Rattle.std.proofs.Math.ListN.{set}
+use Rattle.std.proofs.Common.{◌≡◌, ℕ, ◌<◌, List, [], ◌++◌, length, get_or, Some, None, ap, ◌∙◌, arith, inl, inr}
 use Rattle.std.proofs.lemmas.Bool.{cases_eq}
 use Rattle.std.proofs.lemmas.List.{get_or-set_same, get_or-set_other, get_or_default, get_or_read}
 use Rattle.level_range.specs.declared.range.Logic.{Logic}
 use Rattle.level_range.specs.declared.range.Logic.TheVariants.{X, Zero}
 use Rattle.machine.specs.Shown.{logic_at}
-use Rattle.machine.specs.Trace.{output_at, name_of, places}
+use Rattle.machine.specs.Trace.{output_at, name_of}
 use Rattle.machine.specs.PrintedPlaces.{line_of}
 use Rattle.machine.proofs.TraceLemmas.{lines_more, printed_is}
 use Rattle.machine.proofs.trace.push_step.Goals as goal
@@ -45,9 +44,9 @@ loop-j-preserved c =
     record {
       lines = λ m last step. lines_more c.args.netlist.now c.args.tick c.args.seen.now c.args.printed.now c.loop-j.printed m last c.loop-j.j c.args.text.now.items c.loop-j.text.items c.push_place.new.text.items step (in_range c) (c.loop-j.invariant.rest c.loop-j.j (omega arith)) (c.loop-j.invariant.lines m last step) (line_pushed c);
       done = λ k lt. elim (cases_eq k c.loop-j.j) [
-          | inl e ↦ rw e (get_or-set_same c.loop-j.printed c.loop-j.j (Some value) None fits ∙ ap (λ (v : Logic). Some v) (value_is c))
-          | inr ne ↦ get_or-set_other c.loop-j.printed c.loop-j.j k (Some value) None ne ∙ c.loop-j.invariant.done k (omega arith)
-        ];
+        | inl e ↦ rw e (get_or-set_same c.loop-j.printed c.loop-j.j (Some value) None fits ∙ ap (λ (v : Logic). Some v) (value_is c))
+        | inr ne ↦ get_or-set_other c.loop-j.printed c.loop-j.j k (Some value) None ne ∙ c.loop-j.invariant.done k (omega arith)
+      ];
       rest = λ k le. get_or-set_other c.loop-j.printed c.loop-j.j k (Some value) None (λ e. absurd (omega (arith, e))) ∙ c.loop-j.invariant.rest k (omega arith);
     }
 

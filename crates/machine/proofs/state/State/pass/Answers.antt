@@ -1,8 +1,7 @@
-use Rattle.std.proofs.Common.{◌≡◌, length, arith, refl, sym, subst, ◌∙◌}
+use Rattle.std.proofs.Common.{◌≡◌, arith, sym, subst}
 use Rattle.std.proofs.lemmas.List.{with_items_is}
 use Rattle.std.specs.Vec.{with_items}
-use Rattle.machine.specs.Machine.{Machine}
-use Rattle.machine.specs.Pass.{pass, is_due}
+use Rattle.machine.specs.Pass.{pass}
 use Rattle.machine.specs.Shown.{Values, values_from, ArePassed, AreShown}
 use Rattle.machine.specs.StateValues.{values_of}
 use Rattle.machine.proofs.PassLemmas.{pass_shown, due_shown, same_values}
@@ -29,10 +28,10 @@ after_is c =
 pub returns-clause-shown : goal.returns-clause-shown
 returns-clause-shown c m shown =
     subst (λ (v : Values). AreShown c.args.netlist.now v (pass c.args.netlist.now m)) (after_is c)
-      (pass_shown c.args.netlist.now c.requires.sound (values_of c.args.self.now) (after c) m shown (passed c))
+    (pass_shown c.args.netlist.now c.requires.sound (values_of c.args.self.now) (after c) m shown (passed c))
 
 pub returns-clause-due : goal.returns-clause-due
 unfolding after
 returns-clause-due c m shown =
     due_shown c.args.netlist.now (after c) (pass c.args.netlist.now m) c.in_ok-due.due
-      (pass_shown c.args.netlist.now c.requires.sound (values_of c.args.self.now) (after c) m shown (passed c)) c.in_ok-due.ensures.due
+    (pass_shown c.args.netlist.now c.requires.sound (values_of c.args.self.now) (after c) m shown (passed c)) c.in_ok-due.ensures.due

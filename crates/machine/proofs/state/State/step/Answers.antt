@@ -1,7 +1,6 @@
-use Rattle.std.proofs.Common.{◌≡◌, ◌-◌, ℕ, arith, sym, ap, ◌∙◌, subst}
+use Rattle.std.proofs.Common.{◌≡◌, arith, sym, ◌∙◌, subst}
 use Rattle.machine.specs.Machine.{Machine}
 use Rattle.machine.specs.Pass.{is_due, pass}
-use Rattle.machine.specs.Run.{further, step}
 use Rattle.machine.specs.Shown.{AreShown}
 use Rattle.machine.specs.StateValues.{values_of}
 use Rattle.machine.proofs.StepLemmas.{further_settled, further_none, further_more, first_pass}
@@ -19,8 +18,8 @@ loop-due-preserved c = record {
   sizes = c.in_ok-due-2.ensures.sizes;
   forced = c.pass-in-loop-due.ensures.forced ∙ c.loop-due.invariant.forced;
   so_far = λ m shown.
-    let n = c.loop-due.invariant.so_far m shown in
-    (pass c.args.netlist.now n.0, (c.in_ok-due-2.ensures.shown n.0 n.1.0, c.in_ok-due-2.ensures.due n.0 n.1.0, sym (further_more c.loop-due.left c.args.netlist.now n.0 (omega arith) (n.1.1 ∙ c.loop-due-test.true)) ∙ n.1.2));
+      let n = c.loop-due.invariant.so_far m shown in
+      (pass c.args.netlist.now n.0, (c.in_ok-due-2.ensures.shown n.0 n.1.0, c.in_ok-due-2.ensures.due n.0 n.1.0, sym (further_more c.loop-due.left c.args.netlist.now n.0 (omega arith) (n.1.1 ∙ c.loop-due-test.true)) ∙ n.1.2));
 }
 
 pub returns-else-left-gt0-clause-shown : goal.returns-else-left-gt0-clause-shown

@@ -1,6 +1,6 @@
-use Rattle.std.proofs.Common.{◌≡◌, ◌-◌, ℕ}
+use Rattle.std.proofs.Common.{◌≡◌}
 use Rattle.machine.specs.Machine.{Machine}
-use Rattle.machine.specs.Pass.{is_due, pass}
+use Rattle.machine.specs.Pass.{is_due}
 use Rattle.machine.specs.Run.{further, step}
 use Rattle.machine.specs.Shown.{AreShown, HaveSizes}
 use Rattle.machine.specs.StateValues.{values_of}

@@ -1,9 +1,9 @@
-use Rattle.std.proofs.Common.{◌≡◌, List, length, map, arith, sym, ap, ◌∙◌, subst}
+use Rattle.std.proofs.Common.{◌≡◌, List, map, arith, sym, ◌∙◌, subst}
 use Rattle.std.proofs.lemmas.List.{with_items_is}
 use Rattle.std.specs.Vec.{with_items}
 use Rattle.level_range.specs.declared.range.Logic.{Logic}
 use Rattle.machine.specs.Places.{placed_value}
-use Rattle.machine.specs.Shown.{Values, values_from, with_forced, AreShown}
+use Rattle.machine.specs.Shown.{with_forced, AreShown}
 use Rattle.machine.specs.StateValues.{values_of}
 use Rattle.machine.proofs.state.State.step_with.Goals as goal
 use Rattle.machine.proofs.state.State.step_with.Goals.{In_ok-due}
