@@ -1,10 +1,9 @@
 -- Answers by their parts.
-use Rattle.std.proofs.Common.{◌≡◌, ℕ, List, [], Option, Some, None, refl, sym, ap, ◌∙◌}
+use Rattle.std.proofs.Common.{◌≡◌, ℕ, List, Option, refl}
 use Rattle.gate_net.specs.declared.netlist.Netlist.{Netlist}
 use Rattle.gate_net.specs.declared.stimulus.Stimulus.{Stimulus}
 use Rattle.machine.specs.Run.{run}
 use Rattle.machine.specs.Trace.{trace}
-use Rattle.cfsim.specs.Messages.{oscillates_line}
 use Rattle.cfsim.specs.Answer.{Answer, pass_limit, shown_course, ran}
 
 pub same_answer : (s s' : ℕ) (o o' e e' : List ℕ) → s ≡ s' → o ≡ o' → e ≡ e' → ◌≡◌ {A = Answer} (record { status = s; out = o; err = e }) (record { status = s'; out = o'; err = e' })

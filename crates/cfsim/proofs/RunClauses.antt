@@ -1,7 +1,7 @@
 -- The clauses of the top call, from what the report says and what its writing did.
-use Rattle.std.proofs.Common.{◌≡◌, ◌≢◌, ℕ, zero, suc, ◌<◌, ◌≤◌, Bool, true, false, List, [], ◌∷◌, get_or, take, map, length, Option, Some, None, refl, sym, ap, ◌∙◌, subst, arith, inl, inr, ◌⊎◌}
-use Rattle.std.specs.Prelude.{IfSome, IsOk, is_some, not, ◌&&◌, if◌then◌else◌}
-use Rattle.outside_io.specs.Outside.{Rose, Gains, GainsPrefix}
+use Rattle.std.proofs.Common.{◌≡◌, ◌≢◌, ℕ, zero, suc, ◌≤◌, Bool, true, false, List, [], ◌∷◌, get_or, take, length, Option, Some, None, refl, sym, ap, ◌∙◌, subst, arith, inl, inr, ◌⊎◌}
+use Rattle.std.specs.Prelude.{IfSome, IsOk, is_some, ◌&&◌, if◌then◌else◌}
+use Rattle.outside_io.specs.Outside.{Gains, GainsPrefix}
 use Rattle.cfsim.specs.Words.{Call, names_file, call_of}
 use Rattle.cfsim.specs.Messages.{usage_line, cannot_read_line}
 use Rattle.cfsim.specs.Answer.{Answer, answer, with_netlist, netlist_in}
@@ -110,7 +110,7 @@ pub answered_text : (told : Option Files) (texts : List (List ℕ)) (r : Answer)
     → IfSome told (λ files. Gains old new (pick (answer texts files)))
 answered_text told texts r result pick old new w gains answered =
     if_some_map told (λ files. r ≡ answer texts files) (λ files. Gains old new (pick (answer texts files)))
-      (λ files is. subst (λ (a : Answer). Gains old new (pick a)) is (gains (answered_not_8 result answered))) (w.answered (not_unread told texts r result w answered))
+    (λ files is. subst (λ (a : Answer). Gains old new (pick a)) is (gains (answered_not_8 result answered))) (w.answered (not_unread told texts r result w answered))
 
 pub unwritten_out : (told : Option Files) (texts : List (List ℕ)) (r : Answer) (result : ℕ) (old new : Option (List ℕ)) → IsWritten told texts r result → (r.status ≡ 1 → r.out ≡ []) → GainsPrefix old new r.out
     → IfSome told (λ files. GainsPrefix old new (answer texts files).out)
@@ -142,7 +142,7 @@ module _ (told : Option Files) (texts : List (List ℕ)) (r : Answer) (result : 
       elim w.reported [
         | inl one ↦ if_some told (λ files. (Shelf → ⊥) → (Out → ⊥) → (Err → ⊥) → (result ≡ (answer texts files).status) ⊎ (result ≡ 7)) (λ files shelf out err. absurd (shelf (unread one)))
         | inr ne ↦
-          if_some_map told (λ files. r ≡ answer texts files) (λ files. (Shelf → ⊥) → (Out → ⊥) → (Err → ⊥) → (result ≡ (answer texts files).status) ⊎ (result ≡ 7))
+            if_some_map told (λ files. r ≡ answer texts files) (λ files. (Shelf → ⊥) → (Out → ⊥) → (Err → ⊥) → (result ≡ (answer texts files).status) ⊎ (result ≡ 7))
             (λ files is shelf out err. inl (result_is files is out err)) (w.answered ne)
       ]
 
@@ -151,7 +151,7 @@ module _ (told : Option Files) (texts : List (List ℕ)) (r : Answer) (result : 
       elim w.reported [
         | inl one ↦ if_some told (λ files. (answer texts files).status ≡ 0 → (Shelf → ⊥) → (Out → ⊥) → (Err → ⊥) → (result ≡ 0) ⊎ (result ≡ 7)) (λ files is_zero shelf out err. absurd (shelf (unread one)))
         | inr ne ↦
-          if_some_map told (λ files. r ≡ answer texts files) (λ files. (answer texts files).status ≡ 0 → (Shelf → ⊥) → (Out → ⊥) → (Err → ⊥) → (result ≡ 0) ⊎ (result ≡ 7))
+            if_some_map told (λ files. r ≡ answer texts files) (λ files. (answer texts files).status ≡ 0 → (Shelf → ⊥) → (Out → ⊥) → (Err → ⊥) → (result ≡ 0) ⊎ (result ≡ 7))
             (λ files is is_zero shelf out err. inl (result_is files is out err ∙ is_zero)) (w.answered ne)
       ]
 

@@ -6,7 +6,7 @@ use Rattle.gate_net.specs.declared.netlist.Netlist.{Netlist}
 use Rattle.gate_net.specs.declared.stimulus.Stimulus.{Stimulus}
 use Rattle.first_netlist.specs.Reading.{netlist_of}
 use Rattle.first_vectors.specs.Reading.{stimulus_of}
-use Rattle.machine.specs.Run.{Course, run}
+use Rattle.machine.specs.Run.{run}
 use Rattle.machine.specs.Trace.{trace}
 use Rattle.cfsim.specs.Words.{Call, call_of}
 use Rattle.cfsim.specs.Messages.{usage_line, cannot_read_line, limit_line, unbuilt_line, oscillates_line}

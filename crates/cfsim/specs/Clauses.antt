@@ -1,10 +1,9 @@
 -- The words that the clauses of `run` are written with.
-use Rattle.std.specs.Prelude.{◌≡◌, ◌≢◌, ℕ, ◌≤◌, List, [], Option, Some, None, IsOk, ⊤, ◌⊎◌}
-use Rattle.std.specs.Prelude.{IfSome}
-use Rattle.outside_io.specs.Outside.{Rose, Gains, GainsPrefix}
+use Rattle.std.specs.Prelude.{◌≡◌, ℕ, ◌≤◌, List, Option, Some, IsOk, ◌⊎◌}
+use Rattle.outside_io.specs.Outside.{GainsPrefix}
 use Rattle.cfsim.specs.Words.{Call, call_of}
 use Rattle.cfsim.specs.Messages.{cannot_read_line, no_memory_line}
-use Rattle.cfsim.specs.Answer.{Answer, answer, netlist_in}
+use Rattle.cfsim.specs.Answer.{netlist_in}
 
 -- the statuses that come with the whole answer: 0 and 2 to 6
 abbrev pub IsAnswered : ℕ → Type 0

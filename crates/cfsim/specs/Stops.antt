@@ -1,8 +1,8 @@
 -- Why a file stopped the call, as the code has it.
-use Rattle.std.specs.Prelude.{◌≡◌, ℕ, List, ⊤, Result, Ok, Err}
+use Rattle.std.specs.Prelude.{◌≡◌, ⊤, Result, Ok, Err}
 use Rattle.cfsim.specs.declared.files.Stop.{Stop}
 use Rattle.cfsim.specs.declared.files.Stop.TheVariants as stops
-use Rattle.cfsim.specs.Answer.{Refusal, Missing, TooLong, Outside, Answer, refused}
+use Rattle.cfsim.specs.Answer.{Refusal, TooLong, Outside}
 
 -- what the shelf's file says of the stop; a file that can't be read and want of memory say nothing
 abbrev pub Tells : {X : Type 0} → Stop → Result X Refusal → Type 0

@@ -33,11 +33,7 @@ pub enum Stop {
 }
 
 /// The netlist of a file.
-pub fn netlist_from<F: Shelf>(
-    alloc: Global,
-    shelf: &mut F,
-    name: &str,
-) -> Result<Netlist, Stop>
+pub fn netlist_from<F: Shelf>(alloc: Global, shelf: &mut F, name: &str) -> Result<Netlist, Stop>
     ensures files_stay { F.files shelf.new ≡ F.files shelf.old }
     ensures ok { IfOk result (λ netlist. IfSome (F.files shelf.old) (λ files. netlist_in (files name.now) ≡ Ok netlist)) }
     ensures sound { IfOk result IsSound }

@@ -8,14 +8,12 @@ mod run;
 mod status;
 mod words;
 
+use outside_io::{FileShelf, OpenGate, StreamSink};
 pub use run::run;
 pub use status::Status;
-
-use outside_io::{FileShelf, OpenGate, StreamSink};
 use std::alloc::{AllocError, Global};
-use std::env;
-use std::io;
 use std::process::ExitCode;
+use std::{env, io};
 
 /// The words behind the program's name. Words that aren't all text are no call, and read as none.
 fn arguments(rt: &HostRuntime) -> Result<Vec<String>, AllocError> {
@@ -40,7 +38,15 @@ fn main(rt: HostRuntime) -> ExitCode {
     let mut shelf = FileShelf::new(&rt);
     let mut out = StreamSink::new(rt.stdout());
     let mut err = StreamSink::new(rt.stderr());
-    let status = run(&rt, rt.alloc(), words.as_slice(), &mut shelf, &mut out, &mut err, &OpenGate);
+    let status = run(
+        &rt,
+        rt.alloc(),
+        words.as_slice(),
+        &mut shelf,
+        &mut out,
+        &mut err,
+        &OpenGate,
+    );
     ExitCode::from(status.code())
 }
 

@@ -14,7 +14,8 @@ use outside_io::{Gate, Shelf, Sink};
 use std::alloc::Global;
 use std::thread::Threads;
 
-const USAGE: &[u8] = b"usage: cfsim [--top NAME] [--delays min|typ|max] [--passes N] [--jobs N] [--drop] [--observed] [--dict] NETLIST VECTORS [FAULTS] | --demo N\n";
+const USAGE: &[u8] =
+    b"usage: cfsim [--top NAME] [--delays min|typ|max] [--passes N] [--jobs N] [--drop] [--observed] [--dict] NETLIST VECTORS [FAULTS] | --demo N\n";
 
 const NO_MEMORY: &[u8] = b"cfsim: no memory\n";
 

@@ -5,13 +5,15 @@ use std::test::Fail;
 use std::thread::Threads;
 use std::{env, fs};
 
-const LATCH: &str = "module latch(q, qn, s, r);\noutput q, qn; input s, r;\nnand (q, s, qn);\nnand (qn, r, q);\nendmodule\n";
+const LATCH: &str =
+    "module latch(q, qn, s, r);\noutput q, qn; input s, r;\nnand (q, s, qn);\nnand (qn, r, q);\nendmodule\n";
 
 const VECTORS: &str = "vectors 1\ninputs s r\n0 01\n10 11\n20 10\nend 30\n";
 
 const TRACE: &str = "0 q St1\n0 qn St0\n20 q St0\n20 qn St1\n";
 
-const USAGE: &str = "usage: cfsim [--top NAME] [--delays min|typ|max] [--passes N] [--jobs N] [--drop] [--observed] [--dict] NETLIST VECTORS [FAULTS] | --demo N\n";
+const USAGE: &str =
+    "usage: cfsim [--top NAME] [--delays min|typ|max] [--passes N] [--jobs N] [--drop] [--observed] [--dict] NETLIST VECTORS [FAULTS] | --demo N\n";
 
 const INVERTER: &str = "module r(a, k); output a; input k; nand (a, k, a); endmodule";
 
@@ -74,7 +76,15 @@ fn call(
     let mut shelf = shelf_of(rt, alloc, netlist, vectors, fails.0)?;
     let mut out = call_list(rt, alloc, fails.1)?;
     let mut err = call_list(rt, alloc, fails.2)?;
-    let status = run(rt, alloc, list.as_slice(), &mut shelf, &mut out, &mut err, &OpenGate);
+    let status = run(
+        rt,
+        alloc,
+        list.as_slice(),
+        &mut shelf,
+        &mut out,
+        &mut err,
+        &OpenGate,
+    );
     Ok(Outcome {
         status: status.code(),
         out: text_of(alloc, out.written())?,
@@ -103,14 +113,62 @@ fn calls_have_their_answers(rt: HostRuntime) -> Result<(), Fail> {
         ("n.v v.txt", "", VECTORS, none, 3, "", "n.v: unbuilt\n"),
         ("n.v v.txt", LATCH, "", none, 4, "", "v.txt: unbuilt\n"),
         ("v.txt n.v", LATCH, VECTORS, none, 3, "", "v.txt: unbuilt\n"),
-        ("x.v v.txt", LATCH, VECTORS, none, 1, "", "cfsim: cannot read x.v\n"),
-        ("n.v x.txt", LATCH, VECTORS, none, 1, "", "cfsim: cannot read x.txt\n"),
+        (
+            "x.v v.txt",
+            LATCH,
+            VECTORS,
+            none,
+            1,
+            "",
+            "cfsim: cannot read x.v\n",
+        ),
+        (
+            "n.v x.txt",
+            LATCH,
+            VECTORS,
+            none,
+            1,
+            "",
+            "cfsim: cannot read x.txt\n",
+        ),
         ("n.v x.txt", "", VECTORS, none, 3, "", "n.v: unbuilt\n"),
         // The first calls on the shelf: an open and two reads of the netlist, then the same of the vectors.
-        ("n.v v.txt", LATCH, VECTORS, (0, 99, 99), 1, "", "cfsim: cannot read n.v\n"),
-        ("n.v v.txt", LATCH, VECTORS, (1, 99, 99), 1, "", "cfsim: cannot read n.v\n"),
-        ("n.v v.txt", LATCH, VECTORS, (2, 99, 99), 1, "", "cfsim: cannot read n.v\n"),
-        ("n.v v.txt", LATCH, VECTORS, (4, 99, 99), 1, "", "cfsim: cannot read v.txt\n"),
+        (
+            "n.v v.txt",
+            LATCH,
+            VECTORS,
+            (0, 99, 99),
+            1,
+            "",
+            "cfsim: cannot read n.v\n",
+        ),
+        (
+            "n.v v.txt",
+            LATCH,
+            VECTORS,
+            (1, 99, 99),
+            1,
+            "",
+            "cfsim: cannot read n.v\n",
+        ),
+        (
+            "n.v v.txt",
+            LATCH,
+            VECTORS,
+            (2, 99, 99),
+            1,
+            "",
+            "cfsim: cannot read n.v\n",
+        ),
+        (
+            "n.v v.txt",
+            LATCH,
+            VECTORS,
+            (4, 99, 99),
+            1,
+            "",
+            "cfsim: cannot read v.txt\n",
+        ),
         ("n.v v.txt", LATCH, VECTORS, (99, 0, 99), 8, "", ""),
         ("n.v v.txt", LATCH, VECTORS, (99, 99, 0), 0, TRACE, ""),
         ("n.v v.txt", INVERTER, rise, (99, 99, 0), 8, "0 a St1\n", ""),
@@ -140,7 +198,10 @@ fn chain(alloc: Global, count: u32) -> Result<String, Fail> {
         write!(text, " wire n{before}; nand (n{k}, n{before});")?;
     }
     let last = count.saturating_sub(1);
-    write!(text, " wire n{last}; nand (x, n{last}), (y, x); wire x; endmodule")?;
+    write!(
+        text,
+        " wire n{last}; nand (x, n{last}), (y, x); wire x; endmodule"
+    )?;
     Ok(text)
 }
 
@@ -149,14 +210,31 @@ fn chain(alloc: Global, count: u32) -> Result<String, Fail> {
 fn a_step_has_a_thousand_passes(rt: HostRuntime) -> Result<(), Fail> {
     let vectors = "vectors 1\ninputs a\n0 1\nend 0\n";
     let longest = chain(rt.alloc(), 997)?;
-    let outcome = call(&rt, rt.alloc(), "n.v v.txt", longest.as_str(), vectors, (99, 99, 99))?;
+    let outcome = call(
+        &rt,
+        rt.alloc(),
+        "n.v v.txt",
+        longest.as_str(),
+        vectors,
+        (99, 99, 99),
+    )?;
     assert_eq!(rt; outcome.status, 0);
     assert_eq!(rt; outcome.out.as_str(), "0 y St0\n");
     let longer = chain(rt.alloc(), 998)?;
-    let outcome = call(&rt, rt.alloc(), "n.v v.txt", longer.as_str(), vectors, (99, 99, 99))?;
+    let outcome = call(
+        &rt,
+        rt.alloc(),
+        "n.v v.txt",
+        longer.as_str(),
+        vectors,
+        (99, 99, 99),
+    )?;
     assert_eq!(rt; outcome.status, 6);
     assert_eq!(rt; outcome.out.as_str(), "");
-    assert_eq!(rt; outcome.err.as_str(), "cfsim: good circuit oscillates at 0\n");
+    assert_eq!(rt;
+        outcome.err.as_str(),
+        "cfsim: good circuit oscillates at 0\n"
+    );
     Ok(())
 }
 
@@ -168,8 +246,14 @@ fn adder(alloc: Global) -> Result<String, Fail> {
     for k in 0..4u32 {
         let next = k + 1;
         write!(text, "wire d{k}, e{k}, f{k}, h{k}, i{k}, j{k}, l{k};\n")?;
-        write!(text, "nand (d{k}, a{k}, b{k}), (e{k}, a{k}, d{k}), (f{k}, b{k}, d{k}), (h{k}, e{k}, f{k});\n")?;
-        write!(text, "nand (i{k}, h{k}, c{k}), (j{k}, h{k}, i{k}), (l{k}, c{k}, i{k}), (s{k}, j{k}, l{k});\n")?;
+        write!(
+            text,
+            "nand (d{k}, a{k}, b{k}), (e{k}, a{k}, d{k}), (f{k}, b{k}, d{k}), (h{k}, e{k}, f{k});\n"
+        )?;
+        write!(
+            text,
+            "nand (i{k}, h{k}, c{k}), (j{k}, h{k}, i{k}), (l{k}, c{k}, i{k}), (s{k}, j{k}, l{k});\n"
+        )?;
         write!(text, "nand (c{next}, i{k}, d{k});\n")?;
     }
     text.push_str("endmodule\n")?;
@@ -202,7 +286,14 @@ fn the_adder_adds(rt: HostRuntime) -> Result<(), Fail> {
         last = Some(sum);
     }
     vectors.push_str("end 511\n")?;
-    let outcome = call(&rt, rt.alloc(), "n.v v.txt", netlist.as_str(), vectors.as_str(), (99, 99, 99))?;
+    let outcome = call(
+        &rt,
+        rt.alloc(),
+        "n.v v.txt",
+        netlist.as_str(),
+        vectors.as_str(),
+        (99, 99, 99),
+    )?;
     assert_eq!(rt; outcome.err.as_str(), "");
     assert_eq!(rt; outcome.out.as_str(), expected.as_str());
     assert_eq!(rt; outcome.status, 0);
@@ -225,7 +316,15 @@ fn real_files_give_the_same(rt: HostRuntime) -> Result<(), Fail> {
     let mut out = StreamSink::new(fs::create(&rt, name.as_str())?);
     let mut err = call_list(&rt, alloc, 99)?;
     let mut shelf = FileShelf::new(&rt);
-    let status = run(&rt, alloc, words.as_slice(), &mut shelf, &mut out, &mut err, &OpenGate);
+    let status = run(
+        &rt,
+        alloc,
+        words.as_slice(),
+        &mut shelf,
+        &mut out,
+        &mut err,
+        &OpenGate,
+    );
     drop(out);
     assert_eq!(rt; status.code(), 0);
     let text = fs::read_to_string(&rt, name.as_str())?;

@@ -1,4 +1,4 @@
-use Rattle.std.proofs.Common.{◌≡◌, ap, sym, refl, ◌∙◌}
+use Rattle.std.proofs.Common.{ap, sym, refl, ◌∙◌}
 use Rattle.cfsim.specs.Answer.{shown_course}
 use Rattle.cfsim.proofs.AnswerLemmas.{same_answer, ran_is}
 use Rattle.cfsim.proofs.report.ran.Goals as goal

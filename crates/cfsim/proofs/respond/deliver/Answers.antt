@@ -1,4 +1,4 @@
-use Rattle.std.proofs.Common.{◌≡◌, length, take, rules, arith}
+use Rattle.std.proofs.Common.{length, rules, arith}
 use Rattle.std.proofs.lemmas.List.{take_all}
 use Rattle.outside_io.specs.Outside.{Gains}
 use Rattle.cfsim.proofs.respond.deliver.Goals as goal

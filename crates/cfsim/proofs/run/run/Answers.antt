@@ -1,9 +1,9 @@
-use Rattle.std.proofs.Common.{◌≡◌, ◌≢◌, ℕ, ◌<◌, ◌≤◌, Bool, true, false, List, [], get_or, map, length, Option, Some, None, refl, sym, ap, ◌∙◌, subst, arith, inl, inr, ◌⊎◌}
-use Rattle.std.specs.Prelude.{IfSome, IsOk, string_bytes}
-use Rattle.std.proofs.lemmas.List.{get_or-map, get_or_read, length-map}
-use Rattle.outside_io.specs.Outside.{Rose, Gains, GainsPrefix}
+use Rattle.std.proofs.Common.{◌≡◌, ◌≢◌, ℕ, List, [], get_or, map, length, Some, None, refl, sym, ap, ◌∙◌, subst, arith, inr}
+use Rattle.std.specs.Prelude.{string_bytes}
+use Rattle.std.proofs.lemmas.List.{get_or-map, length-map}
+use Rattle.outside_io.specs.Outside.{Gains}
 use Rattle.cfsim.specs.Words.{Call, call_of}
-use Rattle.cfsim.specs.Messages.{usage_line, cannot_read_line}
+use Rattle.cfsim.specs.Messages.{usage_line}
 use Rattle.cfsim.specs.Answer.{Answer, answer, with_netlist, netlist_in}
 use Rattle.cfsim.specs.Reports.{answer_of}
 use Rattle.cfsim.proofs.RunClauses as clauses
@@ -64,9 +64,9 @@ call_is g c =
     let is_one = sym c.is_call.ensures ∙ c.if-not-is_call.false in
     let len : length c.args.words.now ≡ 2 = sym (length-map c.args.words.now string_bytes) ∙ call_length (map string_bytes c.args.words.now) is_one in
     let netlist : c.as_str.result.now ≡ get_or (map string_bytes c.args.words.now) 0 [] =
-        c.as_str.ensures.value ∙ ap string_bytes c.index-words-0.is ∙ sym (get_or-map string_bytes c.args.words.now 0 c.index-words-0.result [] (omega (arith, len))) in
+    c.as_str.ensures.value ∙ ap string_bytes c.index-words-0.is ∙ sym (get_or-map string_bytes c.args.words.now 0 c.index-words-0.result [] (omega (arith, len))) in
     let vectors : c.as_str-2.result.now ≡ get_or (map string_bytes c.args.words.now) 1 [] =
-        c.as_str-2.ensures.value ∙ ap string_bytes c.index-words-1.is ∙ sym (get_or-map string_bytes c.args.words.now 1 c.index-words-1.result [] (omega (arith, len))) in
+    c.as_str-2.ensures.value ∙ ap string_bytes c.index-words-1.is ∙ sym (get_or-map string_bytes c.args.words.now 1 c.index-words-1.result [] (omega (arith, len))) in
     call_from (map string_bytes c.args.words.now) is_one ∙ ap (λ (call : Call). Some call) (same_call _ _ _ _ (sym netlist) (sym vectors))
 
 report_written : (g : given.Over) (c : After-drop-report-in-Ok g) → IsWritten (g.F.Shelf.files c.args.shelf.now) (map string_bytes c.args.words.now) (answer_of c.in-Ok.report) c.deliver-in-Ok.result
@@ -100,8 +100,8 @@ returns-in-Ok-clause-unread_next g c one =
 pub returns-in-Ok-clause-unread_err : goal.returns-in-Ok-clause-unread_err
 returns-in-Ok-clause-unread_err g c one =
     subst (λ (text : List ℕ). Gains (g.E.Sink.written c.args.err.now) (g.E.Sink.written c.deliver-in-Ok.new.err) text)
-      (c.as_slice-in-Ok.ensures ∙ c.in-Ok.ensures.line (status_one c.in-Ok.report.status c.deliver-in-Ok.result c.deliver-in-Ok.ensures.cases one))
-      (c.deliver-in-Ok.ensures.err (one_not_8 c.deliver-in-Ok.result one))
+    (c.as_slice-in-Ok.ensures ∙ c.in-Ok.ensures.line (status_one c.in-Ok.report.status c.deliver-in-Ok.result c.deliver-in-Ok.ensures.cases one))
+    (c.deliver-in-Ok.ensures.err (one_not_8 c.deliver-in-Ok.result one))
 
 pub returns-in-Ok-clause-unwritten_out : goal.returns-in-Ok-clause-unwritten_out
 returns-in-Ok-clause-unwritten_out g c e = clauses.unwritten_out _ _ (answer_of c.in-Ok.report) c.deliver-in-Ok.result _ _ (report_written g c) c.in-Ok.ensures.no_out (rw c.as_slice.ensures at (c.deliver-in-Ok.ensures.out_prefix (status_not_8 g c) e))
