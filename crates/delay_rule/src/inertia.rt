@@ -1,4 +1,7 @@
-ghost use Rattle.std.specs.Prelude.{◌≡◌, ◌+◌, ◌≤◌, ◌^◌};
+ghost use Rattle.std.specs.Prelude.{◌≡◌, ◌+◌, ◌≤◌, ◌^◌, ◌↔◌, IsNone};
+ghost use Rattle.level_range.specs.Signal.{reads};
+ghost use Rattle.delay_rule.specs.Delay.{delay_of, switch_value as switch_value_of};
+ghost use Rattle.delay_rule.specs.Inertia.{IsPending, IsRetarget, is_pending, retargeted, same_signal, same_conduct};
 
 use crate::choice::pick;
 use crate::delays::Delays;
@@ -10,11 +13,6 @@ pub struct Pending<V> {
     pub value: V,
     pub at: u64,
 }
-
-ghost use Rattle.std.specs.Prelude.{◌↔◌, IsNone};
-ghost use Rattle.level_range.specs.Signal.{reads};
-ghost use Rattle.delay_rule.specs.Delay.{delay_of, switch_value as switch_value_of};
-ghost use Rattle.delay_rule.specs.Inertia.{IsPending, IsRetarget, is_pending, retargeted, same_signal, same_conduct};
 
 /// Whether the value is pending.
 fn awaits<V: Copy + PartialEq>(pending: &Option<Pending<V>>, value: &V) -> bool
