@@ -3,6 +3,7 @@
 
 mod clash;
 mod form;
+mod look_up;
 mod matching;
 mod rows;
 mod symbols;
@@ -13,7 +14,7 @@ mod values;
 pub use rows::{RowList, SymList, UdpRow};
 pub use clash::rows_clash;
 pub use form::{is_well_formed, has_two_edges};
-pub use matching::{matches_inputs, matches_change};
+pub use look_up::{after_changes, level};
 pub use udp::Udp;
 pub use symbols::{Base, Sym};
 pub use tables::{SymTable, edge_table, value_table};
