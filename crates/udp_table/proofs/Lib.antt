@@ -1,3 +1,4 @@
 pub mod Pairs
 pub mod MatchingLemmas
 pub mod Finding
+pub mod Order
