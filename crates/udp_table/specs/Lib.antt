@@ -6,3 +6,5 @@ pub mod Pairs
 pub mod Primitive
 pub mod Inside
 pub mod LookUp
+pub mod Clashes
+pub mod Faults

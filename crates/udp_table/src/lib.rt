@@ -4,6 +4,7 @@
 mod clash;
 mod form;
 mod look_up;
+mod making;
 mod matching;
 mod rows;
 mod symbols;
@@ -12,10 +13,8 @@ mod udp;
 mod values;
 
 pub use rows::{RowList, SymList, UdpRow};
-pub use clash::rows_clash;
-pub use form::{is_well_formed, has_two_edges};
+pub use making::{UdpFault, build};
 pub use look_up::{after_changes, level};
 pub use udp::Udp;
 pub use symbols::{Base, Sym};
 pub use tables::{SymTable, edge_table, value_table};
-pub use values::{as_base, has_value, has_change};

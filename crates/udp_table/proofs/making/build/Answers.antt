@@ -1,0 +1,39 @@
+use Rattle.std.proofs.Common.{◌≡◌, refl, ap, sym, rules}
+use Rattle.udp_table.proofs.RowLemmas.{bad_at, all_well_formed, edges_at, all_few}
+use Rattle.udp_table.proofs.BuildLemmas.{Agrees-NoClash, IsFirstClash-FirstClash, IsAccepted-copy}
+use Rattle.udp_table.proofs.making.build.Goals as goal
+
+pub returns-in-Some-clause-fault : goal.returns-in-Some-clause-fault
+returns-in-Some-clause-fault c =
+    (c.if-not-is_count.ensures.0 refl, bad_at _ _ _ _ c.as_slice.ensures _ _ c.first_bad.ensures c.in-Some.is)
+
+pub returns-in-Some-first_with_two_edges-clause-fault : goal.returns-in-Some-first_with_two_edges-clause-fault
+returns-in-Some-first_with_two_edges-clause-fault c =
+    (c.if-not-is_count.ensures.0 refl, all_well_formed _ _ _ _ c.as_slice.ensures _ c.first_bad.ensures c.in_default.is,
+    edges_at c.args.inputs c.args.sequential _ _ c.as_slice-2.ensures _ _ c.first_with_two_edges.ensures c.in-Some-first_with_two_edges.is)
+
+pub returns-in-Some-first_clash-clause-fault : goal.returns-in-Some-first_clash-clause-fault
+returns-in-Some-first_clash-clause-fault c =
+    (c.if-not-is_count.ensures.0 refl, all_well_formed _ _ _ _ c.as_slice.ensures _ c.first_bad.ensures c.in_default.is,
+    all_few c.args.inputs c.args.sequential _ _ c.as_slice-2.ensures _ c.first_with_two_edges.ensures c.in_default-first_with_two_edges.is,
+    IsFirstClash-FirstClash _ _ _ (rw c.as_slice-3.ensures at c.in-Some-first_clash.ensures))
+
+pub returns-in_default-copied-clause-fault : goal.returns-in_default-copied-clause-fault
+returns-in_default-copied-clause-fault c =
+    (c.if-not-is_count.ensures.0 refl, all_well_formed _ _ _ _ c.as_slice.ensures _ c.first_bad.ensures c.in_default.is,
+    all_few c.args.inputs c.args.sequential _ _ c.as_slice-2.ensures _ c.first_with_two_edges.ensures c.in_default-first_with_two_edges.is,
+    Agrees-NoClash _ (rw c.as_slice-3.ensures at c.in_default-first_clash.ensures))
+
+pub invariant_of-result : goal.invariant_of-result
+invariant_of-result c =
+    IsAccepted-copy _ _ _ _ _ c.in-Ok.ensures (c.if-not-is_count.ensures.0 refl) c.requires
+    (all_well_formed _ _ _ _ c.as_slice.ensures _ c.first_bad.ensures c.in_default.is)
+    (all_few c.args.inputs c.args.sequential _ _ c.as_slice-2.ensures _ c.first_with_two_edges.ensures c.in_default-first_with_two_edges.is)
+    (Agrees-NoClash _ (rw c.as_slice-3.ensures at c.in_default-first_clash.ensures))
+
+pub returns-clause-accepted : goal.returns-clause-accepted
+returns-clause-accepted c =
+    IsAccepted-copy _ _ _ _ _ c.in-Ok.ensures (c.if-not-is_count.ensures.0 refl) c.requires
+    (all_well_formed _ _ _ _ c.as_slice.ensures _ c.first_bad.ensures c.in_default.is)
+    (all_few c.args.inputs c.args.sequential _ _ c.as_slice-2.ensures _ c.first_with_two_edges.ensures c.in_default-first_with_two_edges.is)
+    (Agrees-NoClash _ (rw c.as_slice-3.ensures at c.in_default-first_clash.ensures))
