@@ -37,7 +37,7 @@ clash_at rows i j h g e =
       order = h;
       within = g;
       overlap = (Decides-overlap_test r s).0 (and_left (overlap_test r s) (not (same_symbol r.out s.out)) e);
-      differ = differ_of r.out s.out (and_right (overlap_test r s) (not (same_symbol r.out s.out)) e)
+      differ = differ_of r.out s.out (and_right (overlap_test r s) (not (same_symbol r.out s.out)) e);
     }
 
 no_clash_at : (rows : List UdpRow) (i j : ℕ) → clash_test (row_at rows i) (row_at rows j) ≡ false → ¬ ClashAt rows i j
@@ -57,7 +57,7 @@ IsFirstClash-FirstClash rows i j f =
     record {
       clash = clash_at rows i j f.order f.within f.clash;
       least_first = λ k l h c. no_clash_at rows k l (f.earlier k l h c.order c.within) c;
-      least_second = λ l h c. no_clash_at rows i l (f.nearer l c.order h) c
+      least_second = λ l h c. no_clash_at rows i l (f.nearer l c.order h) c;
     }
 
 -- what was checked of the rows holds of their copy

@@ -32,7 +32,7 @@ module _ (rows : List UdpRow) (i : ℕ) (row : UdpRow) (h : i < length rows) (is
         within = within (rw length-drop at found.0);
         clash = test_behind distance ∙ found.1;
         earlier = earlier;
-        nearer = λ k g l. nearer k g l found.2
+        nearer = λ k g l. nearer k g l found.2;
       }
     where
       within : distance < length rows - (i + 1) → i + 1 + distance < length rows
@@ -47,8 +47,8 @@ module _ (rows : List UdpRow) (i : ℕ) (row : UdpRow) (h : i < length rows) (is
   pub first_clash-None : position (clash_test row) (take (length rows - (i + 1)) (drop (i + 1) rows)) ≡ None → NoClash rows (i + 1)
   first_clash-None e j k g l m =
       elim (cases_order j i) [
-        inl s ↦ here s
-      | inr o ↦ elim o [ inl lt ↦ earlier j k lt l m | inr gt ↦ absurd (omega arith) ]
+        | inl s ↦ here s
+        | inr o ↦ elim o [ inl lt ↦ earlier j k lt l m | inr gt ↦ absurd (omega arith) ]
       ]
     where
       f : position (clash_test row) (drop (i + 1) rows) ≡ None

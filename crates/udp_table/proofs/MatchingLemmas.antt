@@ -44,9 +44,15 @@ pub admits_all-changing : (ss : List Sym) (before : List Logic) (was now : Logic
     pairwise admits ss (changing before was now after)
     ≡ (has_change (get_or ss (length before) d) was now && (pairwise has_value (take (length before) ss) before && pairwise has_value (drop (length before + 1) ss) after))
 admits_all-changing ss before was now after d h e =
-    rw (pairwise-append admits ss (standing before) (record { was = was; now = now } ∷ standing after) (rw length-standing (omega arith)),
-    length-standing before, pairwise-standing (take (length before) ss) before, drop-cons ss (length before) d h, e, add-one,
-    pairwise-standing (drop (suc (length before)) ss) after)
+    rw (
+      pairwise-append admits ss (standing before) (record { was = was; now = now } ∷ standing after) (rw length-standing (omega arith)),
+      length-standing before,
+      pairwise-standing (take (length before) ss) before,
+      drop-cons ss (length before) d h,
+      e,
+      add-one,
+      pairwise-standing (drop (suc (length before)) ss) after,
+    )
     (flip_and (pairwise has_value (take (length before) ss) before) (has_change (get_or ss (length before) d) was now) (pairwise has_value (drop (suc (length before)) ss) after))
 
 length-standing_append : (before after : List Logic) → length (standing (before ++ after)) ≡ length before + length after

@@ -44,10 +44,10 @@ out_at : (rows : List UdpRow) → Agrees rows → (pins : List Pin) (state : Log
     matches (row_at rows i) pins state ≡ true → matches (row_at rows j) pins state ≡ true → (row_at rows i).out ≡ (row_at rows j).out
 out_at rows agrees pins state i j h g m n =
     elim (cases_order i j) [
-      inl e ↦ ap (λ k. (row_at rows k).out) e
-    | inr o ↦ elim o [
-        inl lt ↦ agrees i j lt g (record { pins = pins; state = state; first = m; second = n })
-      | inr gt ↦ sym (agrees j i gt h (record { pins = pins; state = state; first = n; second = m }))
+      | inl e ↦ ap (λ k. (row_at rows k).out) e
+      | inr o ↦ elim o [
+        | inl lt ↦ agrees i j lt g (record { pins = pins; state = state; first = m; second = n })
+        | inr gt ↦ sym (agrees j i gt h (record { pins = pins; state = state; first = n; second = m }))
       ]
     ]
 
@@ -104,8 +104,10 @@ next_value-same : (rows others : List UdpRow) → IsConsistent rows → HasSameR
     (before : List Logic) (was now : Logic) (after : List Logic) (state : Logic) →
     next_value rows before was now after state ≡ next_value others before was now after state
 next_value-same rows others same rows_are before was now after state =
-    rw (found-same rows others same rows_are (standing (before ++ (now ∷ after))) state,
-    found-same rows others same rows_are (changing before was now after) state) refl
+    rw (
+      found-same rows others same rows_are (standing (before ++ (now ∷ after))) state,
+      found-same rows others same rows_are (changing before was now after) state,
+    ) refl
 
 state_after-from : (rows others : List UdpRow) → IsConsistent rows → HasSameRows rows others →
     (before old new : List Logic) (state : Logic) → state_after rows before old new state ≡ state_after others before old new state

@@ -71,10 +71,10 @@ pin v w = record { was = v; now = w }
 share_value-sound : (s t : Sym) → share_value s t ≡ true → (v : Logic) × (has_value s v ≡ true) × (has_value t v ≡ true)
 share_value-sound s t h =
     elim (or_cases (both_have s t value.Zero) (both_have s t value.One || both_have s t value.X) h) [
-      inl e ↦ (value.Zero, and_left (has_value s value.Zero) (has_value t value.Zero) e, and_right (has_value s value.Zero) (has_value t value.Zero) e)
-    | inr o ↦ elim (or_cases (both_have s t value.One) (both_have s t value.X) o) [
-        inl e ↦ (value.One, and_left (has_value s value.One) (has_value t value.One) e, and_right (has_value s value.One) (has_value t value.One) e)
-      | inr e ↦ (value.X, and_left (has_value s value.X) (has_value t value.X) e, and_right (has_value s value.X) (has_value t value.X) e)
+      | inl e ↦ (value.Zero, and_left (has_value s value.Zero) (has_value t value.Zero) e, and_right (has_value s value.Zero) (has_value t value.Zero) e)
+      | inr o ↦ elim (or_cases (both_have s t value.One) (both_have s t value.X) o) [
+        | inl e ↦ (value.One, and_left (has_value s value.One) (has_value t value.One) e, and_right (has_value s value.One) (has_value t value.One) e)
+        | inr e ↦ (value.X, and_left (has_value s value.X) (has_value t value.X) e, and_right (has_value s value.X) (has_value t value.X) e)
       ]
     ]
 
@@ -114,8 +114,8 @@ share_change-total s t value.Z value.Z h g = absurd (no_change s value.Z value.Z
 meet-sound : (s t : Sym) → meet s t ≡ true → Common s t
 meet-sound s t h =
     elim (or_cases (share_value s t) (share_change s t) h) [
-      inl e ↦ let w = share_value-sound s t e in stands s t w.0 w.1 w.2
-    | inr e ↦ share_change-sound s t e
+      | inl e ↦ let w = share_value-sound s t e in stands s t w.0 w.1 w.2
+      | inr e ↦ share_change-sound s t e
     ]
   where
     stands : (s t : Sym) (v : Logic) → has_value s v ≡ true → has_value t v ≡ true → Common s t
@@ -187,7 +187,7 @@ Decides-overlap_test r s = (sound, total)
           pins = p.0;
           state = v.0;
           first = and_true (pairwise admits r.ins p.0) (admits_state r.state v.0) p.1 v.1;
-          second = and_true (pairwise admits s.ins p.0) (admits_state s.state v.0) p.2 v.2
+          second = and_true (pairwise admits s.ins p.0) (admits_state s.state v.0) p.2 v.2;
         }
 
     total : Overlap r s → overlap_test r s ≡ true

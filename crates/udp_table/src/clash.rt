@@ -78,7 +78,5 @@ fn meet_state(a: Option<Sym>, b: Option<Sym>) -> bool
 pub fn rows_clash(a: &UdpRow, b: &UdpRow) -> bool
     ensures { result ≡ clash_test a.now b.now }
 {
-    meet_all(a.ins.as_slice(), b.ins.as_slice())
-        && meet_state(a.state, b.state)
-        && a.out != b.out
+    meet_all(a.ins.as_slice(), b.ins.as_slice()) && meet_state(a.state, b.state) && a.out != b.out
 }

@@ -12,9 +12,12 @@ mod tables;
 mod udp;
 mod values;
 
-pub use rows::{RowList, SymList, UdpRow};
-pub use making::{UdpFault, build};
 pub use look_up::{after_changes, level};
-pub use udp::Udp;
+pub use making::{UdpFault, build};
+pub use rows::{RowList, SymList, UdpRow};
 pub use symbols::{Base, Sym};
 pub use tables::{SymTable, edge_table, value_table};
+pub use udp::Udp;
+
+#[cfg(test)]
+mod tests;

@@ -41,13 +41,7 @@ fn admit_standing(symbols: &[Sym], before: &[Logic], after: &[Logic]) -> bool
 }
 
 /// Whether the symbols admit inputs of which one changes.
-fn admit_change(
-    symbols: &[Sym],
-    before: &[Logic],
-    was: Logic,
-    now: Logic,
-    after: &[Logic],
-) -> bool
+fn admit_change(symbols: &[Sym], before: &[Logic], was: Logic, now: Logic, after: &[Logic]) -> bool
     requires { same_value_of was now ≡ false }
     ensures { result ≡ admits_all symbols.now (changing before.now was now after.now) }
 {

@@ -8,21 +8,27 @@ returns-in-Some-clause-fault c =
     (c.if-not-is_count.ensures.0 refl, bad_at _ _ _ _ c.as_slice.ensures _ _ c.first_bad.ensures c.in-Some.is)
 
 pub returns-in-Some-first_with_two_edges-clause-fault : goal.returns-in-Some-first_with_two_edges-clause-fault
-returns-in-Some-first_with_two_edges-clause-fault c =
-    (c.if-not-is_count.ensures.0 refl, all_well_formed _ _ _ _ c.as_slice.ensures _ c.first_bad.ensures c.in_default.is,
-    edges_at c.args.inputs c.args.sequential _ _ c.as_slice-2.ensures _ _ c.first_with_two_edges.ensures c.in-Some-first_with_two_edges.is)
+returns-in-Some-first_with_two_edges-clause-fault c = (
+  c.if-not-is_count.ensures.0 refl,
+  all_well_formed _ _ _ _ c.as_slice.ensures _ c.first_bad.ensures c.in_default.is,
+  edges_at c.args.inputs c.args.sequential _ _ c.as_slice-2.ensures _ _ c.first_with_two_edges.ensures c.in-Some-first_with_two_edges.is,
+)
 
 pub returns-in-Some-first_clash-clause-fault : goal.returns-in-Some-first_clash-clause-fault
-returns-in-Some-first_clash-clause-fault c =
-    (c.if-not-is_count.ensures.0 refl, all_well_formed _ _ _ _ c.as_slice.ensures _ c.first_bad.ensures c.in_default.is,
-    all_few c.args.inputs c.args.sequential _ _ c.as_slice-2.ensures _ c.first_with_two_edges.ensures c.in_default-first_with_two_edges.is,
-    IsFirstClash-FirstClash _ _ _ (rw c.as_slice-3.ensures at c.in-Some-first_clash.ensures))
+returns-in-Some-first_clash-clause-fault c = (
+  c.if-not-is_count.ensures.0 refl,
+  all_well_formed _ _ _ _ c.as_slice.ensures _ c.first_bad.ensures c.in_default.is,
+  all_few c.args.inputs c.args.sequential _ _ c.as_slice-2.ensures _ c.first_with_two_edges.ensures c.in_default-first_with_two_edges.is,
+  IsFirstClash-FirstClash _ _ _ (rw c.as_slice-3.ensures at c.in-Some-first_clash.ensures),
+)
 
 pub returns-in_default-copied-clause-fault : goal.returns-in_default-copied-clause-fault
-returns-in_default-copied-clause-fault c =
-    (c.if-not-is_count.ensures.0 refl, all_well_formed _ _ _ _ c.as_slice.ensures _ c.first_bad.ensures c.in_default.is,
-    all_few c.args.inputs c.args.sequential _ _ c.as_slice-2.ensures _ c.first_with_two_edges.ensures c.in_default-first_with_two_edges.is,
-    Agrees-NoClash _ (rw c.as_slice-3.ensures at c.in_default-first_clash.ensures))
+returns-in_default-copied-clause-fault c = (
+  c.if-not-is_count.ensures.0 refl,
+  all_well_formed _ _ _ _ c.as_slice.ensures _ c.first_bad.ensures c.in_default.is,
+  all_few c.args.inputs c.args.sequential _ _ c.as_slice-2.ensures _ c.first_with_two_edges.ensures c.in_default-first_with_two_edges.is,
+  Agrees-NoClash _ (rw c.as_slice-3.ensures at c.in_default-first_clash.ensures),
+)
 
 pub invariant_of-result : goal.invariant_of-result
 invariant_of-result c =
