@@ -8,3 +8,4 @@ pub mod SymbolLemmas
 pub mod RowLemmas
 pub mod OverlapLemmas
 pub mod BuildLemmas
+pub mod FaultLemmas

@@ -40,3 +40,8 @@ IsFault inputs sequential rows (Clash i j) =
     IsCount inputs × All (IsWellFormed inputs sequential) rows × All HasFewEdges rows × IsFirstClash rows i j
 IsFault inputs sequential rows Memory =
     IsCount inputs × All (IsWellFormed inputs sequential) rows × All HasFewEdges rows × Agrees rows
+
+-- only memory can be wanting where nothing refuses the parts
+abbrev pub IsRefusal : UdpFault → Type 0
+IsRefusal Memory = ⊥
+IsRefusal _ = Unit {0}

@@ -1,10 +1,11 @@
-ghost use Rattle.std.specs.Prelude.{◌≡◌, ◌≢◌, not, length, IfOk, IfErr, MatchOption, ◌↔◌, IsTrue};
+ghost use Rattle.std.specs.Prelude.{◌≡◌, ◌≢◌, not, length, IfOk, IfErr, MatchOption, Err, ◌↔◌, IsTrue};
 ghost use Rattle.std.specs.List.{position};
 ghost use Rattle.level_range.specs.declared.range.Logic.TheVariants.{Z};
+ghost use Rattle.udp_table.specs.declared.making.UdpFault.{UdpFault};
 ghost use Rattle.udp_table.specs.Primitive.{IsCount, IsAccepted};
 ghost use Rattle.udp_table.specs.Tests.{row_test, edges_test, clash_test};
 ghost use Rattle.udp_table.specs.Clashes.{NoClash, FirstClash};
-ghost use Rattle.udp_table.specs.Faults.{IsFault};
+ghost use Rattle.udp_table.specs.Faults.{IsFault, IsRefusal};
 
 use crate::clash::rows_clash;
 use crate::form::{has_two_edges, is_well_formed};
@@ -86,6 +87,7 @@ pub fn build(
     ensures kept { IfOk result (λ u. u ≡ record { inputs = inputs; sequential = sequential; start = start; rows = rows.now }) }
     ensures accepted { IfOk result (λ u. IsAccepted u) }
     ensures fault { IfErr result (IsFault inputs sequential rows.now) }
+    ensures exactly { (f : UdpFault) → IsRefusal f → IsFault inputs sequential rows.now f → result ≡ Err f }
 {
     if !is_count(inputs) {
         return Err(UdpFault::TooManyInputs);
