@@ -1,20 +1,17 @@
 -- Clashes of rows, from the test of two rows.
-use Rattle.std.proofs.Common.{◌≡◌, ◌≢◌, ℕ, suc, ◌<◌, Bool, true, false, not, ◌&&◌, List, length, refl, sym, ap, ◌∙◌, arith}
-use Rattle.std.specs.Prelude.{Option, Some, None}
-use Rattle.std.specs.Bool.{Decides}
-use Rattle.std.proofs.lemmas.Bool.Decides.{not_from_Decides}
+use Rattle.std.proofs.Common.{◌≡◌, ◌≢◌, ℕ, ◌<◌, Bool, true, false, not, ◌&&◌, List, length, refl, sym, ap, ◌∙◌, arith}
 use Rattle.std.specs.List.{All}
 use Rattle.level_range.specs.declared.range.Logic.{Logic}
 use Rattle.level_range.specs.declared.range.Logic.TheVariants.{Z}
 use Rattle.udp_table.specs.declared.rows.UdpRow.{UdpRow}
 use Rattle.udp_table.specs.declared.symbols.Sym.{Sym}
-use Rattle.udp_table.specs.Rows.{row_at, Overlap, IsWellFormed}
+use Rattle.udp_table.specs.Rows.{row_at, IsWellFormed}
 use Rattle.udp_table.specs.Primitive.{Agrees, IsCount, IsAccepted}
 use Rattle.udp_table.specs.Tests.{overlap_test, same_symbol, clash_test}
 use Rattle.udp_table.specs.Clashes.{NoClash, FirstClash}
 use Rattle.udp_table.specs.Faults.{ClashAt, IsFirstClash, HasFewEdges}
 use Rattle.udp_table.proofs.Pairs.{and_left, and_right}
-use Rattle.udp_table.proofs.SymbolLemmas.{same_symbol-self, same_symbol-sound, true_not_false}
+use Rattle.udp_table.proofs.SymbolLemmas.{same_symbol-self, same_symbol-sound}
 use Rattle.udp_table.proofs.OverlapLemmas.{Decides-overlap_test}
 
 differ_of : (a b : Sym) → not (same_symbol a b) ≡ true → a ≢ b

@@ -1,14 +1,14 @@
 -- The faults exclude one another.
-use Rattle.std.proofs.Common.{◌≡◌, ◌≢◌, ℕ, suc, ◌<◌, ◌≤◌, Bool, List, length, refl, sym, ap, ◌∙◌, ◌⊎◌, inl, inr, subst, arith}
+use Rattle.std.proofs.Common.{◌≡◌, ℕ, Bool, List, refl, sym, ap, inl, inr, subst}
 use Rattle.std.specs.List.{All}
 use Rattle.std.proofs.lemmas.Bool.{cases_order}
 use Rattle.std.proofs.lemmas.List.Elements.{All-get_or}
 use Rattle.udp_table.specs.declared.rows.UdpRow.{UdpRow}
 use Rattle.udp_table.specs.declared.making.UdpFault.{UdpFault}
 use Rattle.udp_table.specs.declared.making.UdpFault.TheVariants.{TooManyInputs, BadSymbol, TwoEdges, Clash, Memory}
-use Rattle.udp_table.specs.Rows.{row_at, no_row, IsWellFormed}
-use Rattle.udp_table.specs.Primitive.{Agrees, IsCount, IsAccepted, Primitive}
-use Rattle.udp_table.specs.Faults.{IsFirstRow, ClashAt, IsFirstClash, HasFewEdges, IsFault, IsRefusal}
+use Rattle.udp_table.specs.Rows.{no_row, IsWellFormed}
+use Rattle.udp_table.specs.Primitive.{Agrees}
+use Rattle.udp_table.specs.Faults.{IsFirstRow, IsFirstClash, HasFewEdges, IsFault, IsRefusal}
 
 none_first : (Q : UdpRow → Type 0) (rows : List UdpRow) (k : ℕ) → All Q rows → IsFirstRow (λ row. ¬ Q row) rows k → ⊥
 none_first Q rows k all f = f.holds (All-get_or Q rows k no_row f.within all)
@@ -16,8 +16,8 @@ none_first Q rows k all f = f.holds (All-get_or Q rows k no_row f.within all)
 same_first : (P : UdpRow → Type 0) (rows : List UdpRow) (j k : ℕ) → IsFirstRow P rows j → IsFirstRow P rows k → j ≡ k
 same_first P rows j k f g =
     elim (cases_order j k) [
-      inl e ↦ e
-    | inr o ↦ elim o [ inl lt ↦ absurd (g.least j lt f.holds) | inr gt ↦ absurd (f.least k gt g.holds) ]
+      | inl e ↦ e
+      | inr o ↦ elim o [ inl lt ↦ absurd (g.least j lt f.holds) | inr gt ↦ absurd (f.least k gt g.holds) ]
     ]
 
 no_first_clash : (rows : List UdpRow) (i j : ℕ) → Agrees rows → IsFirstClash rows i j → ⊥
@@ -26,15 +26,15 @@ no_first_clash rows i j agrees f = f.clash.differ (agrees i j f.clash.order f.cl
 same_clash_first : (rows : List UdpRow) (i j k l : ℕ) → IsFirstClash rows i j → IsFirstClash rows k l → i ≡ k
 same_clash_first rows i j k l f g =
     elim (cases_order i k) [
-      inl e ↦ e
-    | inr o ↦ elim o [ inl lt ↦ absurd (g.least_first i j lt f.clash) | inr gt ↦ absurd (f.least_first k l gt g.clash) ]
+      | inl e ↦ e
+      | inr o ↦ elim o [ inl lt ↦ absurd (g.least_first i j lt f.clash) | inr gt ↦ absurd (f.least_first k l gt g.clash) ]
     ]
 
 same_clash_second : (rows : List UdpRow) (i j l : ℕ) → IsFirstClash rows i j → IsFirstClash rows i l → j ≡ l
 same_clash_second rows i j l f g =
     elim (cases_order j l) [
-      inl e ↦ e
-    | inr o ↦ elim o [ inl lt ↦ absurd (g.least_second j lt f.clash) | inr gt ↦ absurd (f.least_second l gt g.clash) ]
+      | inl e ↦ e
+      | inr o ↦ elim o [ inl lt ↦ absurd (g.least_second j lt f.clash) | inr gt ↦ absurd (f.least_second l gt g.clash) ]
     ]
 
 same_clash : (rows : List UdpRow) (i j k l : ℕ) → IsFirstClash rows i j → IsFirstClash rows k l → Clash i j ≡ Clash k l

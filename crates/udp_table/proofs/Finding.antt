@@ -1,10 +1,9 @@
 -- Finding a row that matches.
-use Rattle.std.proofs.Common.{◌≡◌, ℕ, suc, ◌+◌, ◌<◌, Bool, true, false, cond, List, [], ◌∷◌, length, get_or, drop, refl, arith, add-one}
+use Rattle.std.proofs.Common.{◌≡◌, ℕ, suc, ◌+◌, ◌<◌, Bool, true, false, cond, List, ◌∷◌, length, get_or, drop, refl, add-one}
 use Rattle.std.proofs.Math.Seq.{drop-cons}
-use Rattle.std.specs.Prelude.{Option, Some, None}
+use Rattle.std.specs.Prelude.{Option, Some}
 use Rattle.level_range.specs.declared.range.Logic.{Logic}
 use Rattle.udp_table.specs.declared.rows.UdpRow.{UdpRow}
-use Rattle.udp_table.specs.declared.symbols.Sym.{Sym}
 use Rattle.udp_table.specs.Symbols.{Pin}
 use Rattle.udp_table.specs.Rows.{matches}
 use Rattle.udp_table.specs.LookUp.{found, output_in}

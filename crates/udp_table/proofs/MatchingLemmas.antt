@@ -1,11 +1,11 @@
 -- What rows match, by their symbols.
-use Rattle.std.proofs.Common.{◌≡◌, ℕ, zero, suc, ◌+◌, ◌-◌, ◌<◌, ◌≤◌, Bool, true, false, cond, ◌&&◌, List, [], ◌∷◌, ◌++◌, length, get_or, take, drop, map, refl, ap, sym, ◌∙◌, arith, add-one}
+use Rattle.std.proofs.Common.{◌≡◌, suc, ◌+◌, ◌-◌, ◌<◌, ◌≤◌, Bool, true, false, ◌&&◌, List, [], ◌∷◌, ◌++◌, length, get_or, take, drop, refl, ap, sym, ◌∙◌, arith, add-one}
 use Rattle.std.proofs.Math.Seq.{drop-cons}
-use Rattle.std.proofs.lemmas.List.{map-append, take_rest}
+use Rattle.std.proofs.lemmas.List.{take_rest}
 use Rattle.level_range.specs.declared.range.Logic.{Logic}
 use Rattle.level_range.specs.declared.range.Logic.TheVariants.{Zero, One, X, Z}
 use Rattle.udp_table.specs.declared.symbols.Sym.{Sym}
-use Rattle.udp_table.specs.Symbols.{Pin, admits, has_value, has_change, same_value}
+use Rattle.udp_table.specs.Symbols.{admits, has_value, has_change, same_value}
 use Rattle.udp_table.specs.Pairs.{pairwise}
 use Rattle.udp_table.specs.LookUp.{standing, changing}
 use Rattle.udp_table.proofs.Pairs.{pairwise-append, pairwise-short}

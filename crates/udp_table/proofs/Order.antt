@@ -1,6 +1,6 @@
 -- The order of the rows doesn't matter: rows that match one look-up have the same output.
-use Rattle.std.proofs.Common.{◌≡◌, ℕ, zero, suc, ◌<◌, Bool, true, false, cond, ◌&&◌, ◌⊎◌, inl, inr, List, [], ◌∷◌, ◌++◌, length, get_or, refl, ap, sym, ◌∙◌, arith}
-use Rattle.std.specs.Prelude.{Option, Some, None, ◌↔◌, if◌then◌else◌, IsTrue}
+use Rattle.std.proofs.Common.{◌≡◌, ℕ, zero, suc, ◌<◌, Bool, true, false, inl, inr, List, [], ◌∷◌, ◌++◌, length, get_or, refl, ap, sym, ◌∙◌, arith}
+use Rattle.std.specs.Prelude.{Some, None, if◌then◌else◌}
 use Rattle.std.specs.List.{Contains}
 use Rattle.std.proofs.lemmas.List.{get_or_default}
 use Rattle.std.proofs.lemmas.List.Elements.{Contains-get_or}
@@ -8,11 +8,10 @@ use Rattle.std.proofs.lemmas.Bool.{cases_order}
 use Rattle.level_range.specs.declared.range.Logic.{Logic}
 use Rattle.level_range.specs.declared.range.Logic.TheVariants.{X}
 use Rattle.udp_table.specs.declared.rows.UdpRow.{UdpRow}
-use Rattle.udp_table.specs.declared.symbols.Sym.{Sym}
 use Rattle.udp_table.specs.Symbols.{Pin, same_value}
-use Rattle.udp_table.specs.Rows.{matches, row_at, no_row, Overlap}
+use Rattle.udp_table.specs.Rows.{matches, row_at, no_row}
 use Rattle.udp_table.specs.Primitive.{Agrees}
-use Rattle.udp_table.specs.LookUp.{found, standing, changing, either, value_or_x, output_value, level_value, next_value, state_after, HasSameRows}
+use Rattle.udp_table.specs.LookUp.{found, standing, changing, value_or_x, output_value, level_value, next_value, state_after, HasSameRows}
 use Rattle.udp_table.proofs.Finding.{found-cons}
 
 -- no row matches, or the one that is found does

@@ -1,18 +1,17 @@
 -- Two rows overlap where their symbols meet.
-use Rattle.std.proofs.Common.{◌≡◌, ℕ, suc, ◌<◌, Bool, true, false, not, ◌&&◌, ◌||◌, List, [], ◌∷◌, length, refl, sym, ap, ◌∙◌, ◌⊎◌, inl, inr, arith}
-use Rattle.std.specs.Prelude.{Option, Some, None, IsTrue, if◌then◌else◌}
+use Rattle.std.proofs.Common.{◌≡◌, Bool, true, false, ◌&&◌, ◌||◌, List, [], ◌∷◌, refl, ◌⊎◌, inl, inr, arith}
+use Rattle.std.specs.Prelude.{Option, Some, None}
 use Rattle.std.specs.Bool.{Decides}
 use Rattle.level_range.specs.declared.range.Logic.{Logic}
 use Rattle.level_range.specs.declared.range.Logic.TheVariants as value
 use Rattle.udp_table.specs.declared.symbols.Base.{Base}
-use Rattle.udp_table.specs.declared.symbols.Base.TheVariants as base
 use Rattle.udp_table.specs.declared.symbols.Sym.{Sym}
 use Rattle.udp_table.specs.declared.symbols.Sym.TheVariants.{Zero, One, X, Any, Both, Same, Rise, Fall, Pos, Neg, Change, Edge}
 use Rattle.udp_table.specs.declared.rows.UdpRow.{UdpRow}
 use Rattle.udp_table.specs.Pairs.{pairwise}
 use Rattle.udp_table.specs.Symbols.{Pin, admits, base_has, base_of, some_has, is_change, has_value, has_change}
 use Rattle.udp_table.specs.Rows.{admits_state, Overlap}
-use Rattle.udp_table.specs.Tests.{both_have, share_value, both_contain, share_change, meet, meet_all, meet_state, overlap_test, value_test}
+use Rattle.udp_table.specs.Tests.{both_have, share_value, both_contain, share_change, meet, meet_all, meet_state, overlap_test}
 use Rattle.udp_table.proofs.Pairs.{and_left, and_right}
 use Rattle.udp_table.proofs.SymbolLemmas.{Decides-value_test}
 

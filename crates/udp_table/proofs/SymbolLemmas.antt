@@ -1,7 +1,7 @@
 -- Each test of symbols and rows decides what its name says.
-use Rattle.std.proofs.Common.{◌≡◌, ℕ, zero, suc, ◌+◌, ◌<◌, ◌≤◌, Bool, true, false, not, ◌&&◌, ◌||◌, List, [], ◌∷◌, length, refl, ap, sym, ◌∙◌, ◌⊎◌, inl, inr, arith}
+use Rattle.std.proofs.Common.{◌≡◌, ℕ, Bool, true, false, ◌&&◌, length, refl, sym, ◌∙◌, arith}
 use Rattle.std.specs.Bool.{Decides}
-use Rattle.std.specs.Prelude.{Option, Some, None, IsTrue, nat_eq, if◌then◌else◌}
+use Rattle.std.specs.Prelude.{Option, Some, None, IsTrue, nat_eq}
 use Rattle.std.specs.List.{list_all}
 use Rattle.std.proofs.lemmas.Bool.Decides.{Decides-and, Decides-or, Decides-not, Decides-like, Decides-eqb, Decides-by_and}
 use Rattle.level_range.specs.declared.range.Logic.{Logic}
@@ -10,10 +10,10 @@ use Rattle.udp_table.specs.declared.symbols.Base.{Base}
 use Rattle.udp_table.specs.declared.symbols.Base.TheVariants as base
 use Rattle.udp_table.specs.declared.symbols.Sym.{Sym}
 use Rattle.udp_table.specs.declared.symbols.Sym.TheVariants.{Zero, One, X, Any, Both, Same, Rise, Fall, Pos, Neg, Change, Edge}
-use Rattle.udp_table.specs.Symbols.{Pin, admits, base_has, base_of, is_change, has_value, has_change, same_value, HasValue, HasChange}
+use Rattle.udp_table.specs.Symbols.{base_has, is_change, HasValue, HasChange}
 use Rattle.udp_table.specs.declared.rows.UdpRow.{UdpRow}
 use Rattle.udp_table.specs.Rows.{IsInput, IsState, IsOutput, IsWellFormed}
-use Rattle.udp_table.specs.Tests.{value_test, same_single, change_test, input_test, state_test, output_test, row_test, same_base, same_symbol}
+use Rattle.udp_table.specs.Tests.{value_test, change_test, input_test, state_test, output_test, row_test, same_base, same_symbol}
 use Rattle.udp_table.proofs.Pairs.{and_left, and_right}
 
 pub true_not_false : true ≡ false → ⊥

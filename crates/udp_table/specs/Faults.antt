@@ -1,5 +1,5 @@
 -- Why a primitive is refused, in the order of the checks.
-use Rattle.std.specs.Prelude.{◌≡◌, ◌≢◌, ℕ, ◌<◌, ◌≤◌, Bool, List, length, All}
+use Rattle.std.specs.Prelude.{◌≢◌, ℕ, ◌<◌, ◌≤◌, Bool, List, length, All}
 use Rattle.udp_table.specs.declared.rows.UdpRow.{UdpRow}
 use Rattle.udp_table.specs.declared.making.UdpFault.{UdpFault}
 use Rattle.udp_table.specs.declared.making.UdpFault.TheVariants.{TooManyInputs, BadSymbol, TwoEdges, Clash, Memory}

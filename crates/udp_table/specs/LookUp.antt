@@ -1,5 +1,5 @@
 -- The value of a user-defined primitive (IEEE 1364-2005, 8.2 to 8.6).
-use Rattle.std.specs.Prelude.{Bool, true, false, List, [], ◌∷◌, ◌++◌, map, find, Option, Some, None, if◌then◌else◌, ◌↔◌}
+use Rattle.std.specs.Prelude.{List, [], ◌∷◌, ◌++◌, map, find, Option, Some, None, if◌then◌else◌, ◌↔◌}
 use Rattle.std.specs.List.{Contains}
 use Rattle.level_range.specs.declared.range.Logic.{Logic}
 use Rattle.level_range.specs.declared.range.Logic.TheVariants.{Zero, One, X}

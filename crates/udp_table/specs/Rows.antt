@@ -1,5 +1,5 @@
 -- Rows: what may stand in them, their edges, what they match, and where two overlap (IEEE 1364-2005, 8.1.4 to 8.1.6).
-use Rattle.std.specs.Prelude.{◌≡◌, ◌≢◌, ℕ, ◌<◌, ◌≤◌, Bool, true, false, ◌&&◌, IsTrue, ◌⊎◌, List, [], ◌∷◌, length, All, Option, Some, None, slice_index_or}
+use Rattle.std.specs.Prelude.{◌≡◌, ℕ, Bool, true, false, ◌&&◌, IsTrue, ◌⊎◌, List, [], length, All, Option, Some, None, slice_index_or}
 use Rattle.std.specs.List.{count_by}
 use Rattle.level_range.specs.declared.range.Logic.{Logic}
 use Rattle.udp_table.specs.declared.symbols.Sym.{Sym}

@@ -1,6 +1,5 @@
 -- The symbols as tables: one row for a symbol, one column for a value or a change.
 use Rattle.std.specs.Prelude.{◌≡◌, ℕ, Bool, true, false, List, [], ◌∷◌, Option, Some, slice_get, slice_index_or}
-use Rattle.level_range.specs.declared.range.Logic.{Logic}
 use Rattle.level_range.specs.declared.range.Logic.TheVariants.{Zero, One, X}
 use Rattle.udp_table.specs.declared.symbols.Base.{Base}
 use Rattle.udp_table.specs.declared.symbols.Base.TheVariants as base

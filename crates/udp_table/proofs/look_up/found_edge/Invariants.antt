@@ -1,4 +1,4 @@
-use Rattle.std.proofs.Common.{◌≡◌, ◌++◌, drop}
+use Rattle.std.proofs.Common.{◌≡◌, drop}
 use Rattle.udp_table.specs.LookUp.{found, changing}
 use Rattle.udp_table.proofs.look_up.found_edge.Given as goal
 
