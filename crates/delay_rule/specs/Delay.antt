@@ -1,0 +1,35 @@
+-- Which delay a change takes (IEEE 1364-2005, 7.14).
+use Rattle.std.specs.Prelude.{ℕ, List, [], ◌∷◌, min, take}
+use Rattle.level_range.specs.declared.range.Logic.{Logic}
+use Rattle.level_range.specs.declared.range.Logic.TheVariants.{Zero, One, X, Z}
+use Rattle.level_range.specs.declared.range.Conduct.{Conduct}
+use Rattle.level_range.specs.declared.range.Conduct.TheVariants.{On, Off, Unknown}
+use Rattle.delay_rule.specs.declared.delays.Delays.{Delays}
+
+-- the delays that are given
+abbrev pub given : Delays → List ℕ
+given delays = take delays.count delays.d
+
+-- no delay is 0, and one serves all; a change to 1 takes the first, to 0 the second, to z the third or with two
+-- delays the least, to x the least of those given
+abbrev pub chosen : List ℕ → Logic → ℕ
+chosen [] _ = 0
+chosen (all ∷ []) _ = all
+chosen (rise ∷ fall ∷ []) One = rise
+chosen (rise ∷ fall ∷ []) Zero = fall
+chosen (rise ∷ fall ∷ []) Z = min rise fall
+chosen (rise ∷ fall ∷ []) X = min rise fall
+chosen (rise ∷ fall ∷ off ∷ _) One = rise
+chosen (rise ∷ fall ∷ off ∷ _) Zero = fall
+chosen (rise ∷ fall ∷ off ∷ _) Z = off
+chosen (rise ∷ fall ∷ off ∷ _) X = min (min rise fall) off
+
+-- the delay of a change to a value
+abbrev pub delay_of : Delays → Logic → ℕ
+delay_of delays to = chosen (given delays) to
+
+-- the value by which a switch chooses its delay: it turns on by the delay to 1, off by that to 0, to unknown by that to x
+abbrev pub switch_value : Conduct → Logic
+switch_value On = One
+switch_value Off = Zero
+switch_value Unknown = X

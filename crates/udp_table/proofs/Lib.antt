@@ -1,0 +1,11 @@
+pub mod Pairs
+pub mod MatchingLemmas
+pub mod Finding
+pub mod Order
+pub mod Positions
+pub mod ClashLemmas
+pub mod SymbolLemmas
+pub mod RowLemmas
+pub mod OverlapLemmas
+pub mod BuildLemmas
+pub mod FaultLemmas
