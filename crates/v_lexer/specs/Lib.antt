@@ -1,0 +1,9 @@
+pub mod Bytes
+pub mod Quoted
+pub mod Gaps
+pub mod Numbers
+pub mod Literals
+pub mod Needed
+pub mod Words
+pub mod Places
+pub mod Tokens

@@ -1,0 +1,20 @@
+//! The tokens of a netlist text, or its first lexical fault.
+#![tactic(auto)]
+
+mod bytes;
+mod fault;
+mod gaps;
+mod lexer;
+mod lists;
+mod literals;
+mod numbers;
+mod places;
+mod quoted;
+mod token;
+mod words;
+
+pub use fault::LexFault;
+pub use lexer::tokens;
+pub use lists::TokenList;
+pub use literals::{Base, Bit};
+pub use token::{Token, TokenKind};
