@@ -1,6 +1,7 @@
 pub mod Lengths
-pub mod Values
+pub mod Growth
 pub mod Bits
 pub mod Added
 pub mod Fronts
 pub mod Whole
+pub mod Digits

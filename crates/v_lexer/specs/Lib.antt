@@ -7,3 +7,4 @@ pub mod Needed
 pub mod Words
 pub mod Places
 pub mod Tokens
+pub mod Values

@@ -11,10 +11,12 @@ mod numbers;
 mod places;
 mod quoted;
 mod token;
+mod values;
 mod words;
 
 pub use fault::LexFault;
 pub use lexer::tokens;
-pub use lists::TokenList;
+pub use lists::{BitList, TokenList};
 pub use literals::{Base, Bit};
 pub use token::{Token, TokenKind};
+pub use values::{Literal, literal_value, name_text, number_value};

@@ -293,7 +293,7 @@ fn decimal_within(digits: &[u8], most: u128) -> bool
 
 /// Whether a value fits: of base d below 2^128, and without size into 32 bits.
 #[tactic(auto, unfolding(crate::specs::Literals::value_holds))]
-fn value_holds(size: Option<u128>, base: Base, digits: &[u8]) -> bool
+fn value_holds(size: Option<u32>, base: Base, digits: &[u8]) -> bool
     ensures { result ≡ value_holds size base digits.now }
 {
     match (base, size) {
@@ -306,7 +306,7 @@ fn value_holds(size: Option<u128>, base: Base, digits: &[u8]) -> bool
     }
 }
 
-fn size_holds(size: Option<u128>) -> bool
+fn size_holds(size: Option<u32>) -> bool
     ensures { result ≡ size_holds size }
 {
     match size {
@@ -317,7 +317,7 @@ fn size_holds(size: Option<u128>) -> bool
 
 /// Whether a based number has none of its faults.
 #[tactic(auto, unfolding(crate::specs::Literals::holds))]
-pub fn holds(size: Option<u128>, form: &Form) -> bool
+pub fn holds(size: Option<u32>, form: &Form) -> bool
     ensures { result ≡ holds size (form_view form.now) }
 {
     size_holds(size)

@@ -17,7 +17,7 @@ fn value_with(value: u128, byte: u8) -> Option<u128>
 }
 
 /// The value of decimal digits, among which `_` may stand, where it is below 2^128.
-#[tactic(auto, using(crate::proofs::Values::values), unfolding(crate::specs::Numbers::value_after))]
+#[tactic(auto, using(crate::proofs::Growth::values), unfolding(crate::specs::Numbers::value_after))]
 pub fn decimal_value(digits: &[u8]) -> Option<u128>
     ensures { MatchOption result (2 ^ 128 ≤ decimal_value digits.now) (λ value. value ≡ decimal_value digits.now) }
 {
@@ -31,6 +31,22 @@ pub fn decimal_value(digits: &[u8]) -> Option<u128>
         rest = after;
     }
     Some(value)
+}
+
+/// The value of a number, where it is below 2^31.
+pub fn small_value(digits: &[u8]) -> Option<u32>
+    ensures { MatchOption result (2147483648 ≤ decimal_value digits.now) (λ value. (value ≡ decimal_value digits.now) × (value < 2147483648)) }
+{
+    match decimal_value(digits) {
+        Some(value) => {
+            if value < 0x8000_0000 {
+                Some(value as u32)
+            } else {
+                None
+            }
+        }
+        None => None,
+    }
 }
 
 /// The length of digits, `.` and digits, or 0.

@@ -1,8 +1,7 @@
-ghost use Rattle.std.specs.Prelude.{◌≡◌, ◌≤◌, ◌<◌, ◌+◌, length, IsTrue, IfOk, MatchOption};
+ghost use Rattle.std.specs.Prelude.{◌≡◌, ◌≤◌, ◌<◌, ◌+◌, length, IsTrue, IfOk};
 ghost use Rattle.v_lexer.specs.Places.{is_word, mark_at, slash_at, open_at, quote_at, escaped_at, directive_at, name_at, literal_at, exponent_at, quote_place, whole_at, number_at, plain_at, is_symbol, is_table_end, row_at, place_at, is_table_word, table_after};
 ghost use Rattle.std.specs.Char.{is_ascii_digit};
 ghost use Rattle.v_lexer.specs.Bytes.{first, is_letter};
-ghost use Rattle.v_lexer.specs.Numbers.{decimal_value};
 
 use crate::bytes::{
     after, before, begins, blank_run, first, is_blank, is_letter, is_name_byte, is_visible,
@@ -11,7 +10,7 @@ use crate::bytes::{
 use crate::fault::FaultKind;
 use crate::gaps::{attribute_len, comment_len};
 use crate::literals::{form_at, holds};
-use crate::numbers::{decimal_len, decimal_value, exponent_len};
+use crate::numbers::{decimal_len, exponent_len, small_value};
 use crate::quoted::text_len;
 use crate::token::{Piece, TokenKind};
 use crate::words::Words;
@@ -137,7 +136,7 @@ fn name_at(words: &Words, text: &[u8]) -> Result<Piece, FaultKind>
 
 /// A based number whose `'` stands at the place, and whose size is given.
 #[tactic(auto, unfolding(crate::specs::Places::literal_with))]
-fn literal_at(size: Option<u128>, place: usize, text: &[u8]) -> Result<Piece, FaultKind>
+fn literal_at(size: Option<u32>, place: usize, text: &[u8]) -> Result<Piece, FaultKind>
     requires { place ≤ length text.now }
     ensures at { result ≡ literal_at size place text.now }
     ensures within { IfOk result (λ piece. (0 < piece.len) × (piece.len ≤ length text.now)) }
@@ -167,22 +166,6 @@ fn exponent_at(kind: TokenKind, len: usize, text: &[u8]) -> Result<Piece, FaultK
         token(TokenKind::Exponent, len + exponent)
     } else {
         token(kind, len)
-    }
-}
-
-/// The value of a number, where it is below 2^31.
-fn small_value(digits: &[u8]) -> Option<u128>
-    ensures { MatchOption result (2147483648 ≤ decimal_value digits.now) (λ value. (value ≡ decimal_value digits.now) × (value < 2147483648)) }
-{
-    match decimal_value(digits) {
-        Some(value) => {
-            if value < 0x8000_0000 {
-                Some(value)
-            } else {
-                None
-            }
-        }
-        None => None,
     }
 }
 
