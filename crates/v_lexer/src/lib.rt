@@ -10,6 +10,8 @@ mod literals;
 mod numbers;
 mod places;
 mod quoted;
+#[cfg(test)]
+mod tests;
 mod token;
 mod values;
 mod words;
