@@ -5,3 +5,4 @@ pub mod Added
 pub mod Fronts
 pub mod Whole
 pub mod Digits
+pub mod Pieces

@@ -6,7 +6,7 @@ use Rattle.v_lexer.specs.declared.token.Piece.{Piece}
 use Rattle.v_lexer.specs.declared.fault.FaultKind.{FaultKind}
 use Rattle.v_lexer.specs.declared.fault.FaultKind.TheVariants as kind
 use Rattle.v_lexer.specs.Places.{place_at, table_after}
-use Rattle.v_lexer.specs.Tokens.{Lexed, Fails, line_after, lines_after, fault_at, end_at, given, onto, found_at, tokens_from}
+use Rattle.v_lexer.specs.Tokens.{Lexed, Fails, line_after, lines_after, fault_at, end_at, given, onto, found_at, tokens_from, tokens_of}
 
 onto-onto : (front others : List Token) (lexed : Lexed) → onto front (onto others lexed) ≡ onto (front ++ others) lexed
 onto-onto front others (Ok tokens) = let P : List Token → Lexed = λ x. Ok x in ap P (sym (append_assoc front others tokens))
@@ -80,3 +80,11 @@ pub tokens_end : (old new : List Token) (rest : List ℕ) (table : Bool) (at lin
 unfolding tokens_from
 tokens_end old new [] table at line all none new-is so_far = rw new-is (sym so_far)
 tokens_end old new (byte ∷ bytes) table at line all none new-is so_far = absurd (omega arith)
+
+pub onto_none : (none : List Token) (text : List ℕ) → none ≡ [] → onto none (tokens_from 0 false 0 1 text) ≡ tokens_of text
+unfolding tokens_of
+onto_none none text is = rw is (same (tokens_from 0 false 0 1 text))
+  where
+    same : (lexed : Lexed) → onto [] lexed ≡ lexed
+    same (Ok tokens) = refl
+    same (Err fault) = refl

@@ -8,3 +8,4 @@ pub mod Words
 pub mod Places
 pub mod Tokens
 pub mod Values
+pub mod Reading

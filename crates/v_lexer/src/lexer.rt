@@ -1,5 +1,7 @@
-ghost use Rattle.std.specs.Prelude.{◌≡◌, ◌≤◌, ◌<◌, ◌+◌, ◌^◌, ◌++◌, length, OnOk, IfErr};
+ghost use Rattle.std.specs.Prelude.{◌≡◌, ◌≤◌, ◌<◌, ◌+◌, ◌^◌, ◌++◌, List, length, Ok, OnOk, IfOk, IfErr};
 ghost use Rattle.v_lexer.specs.declared.fault.LexFault.TheVariants.{Memory};
+ghost use Rattle.v_lexer.specs.declared.token.Token.{Token};
+ghost use Rattle.v_lexer.specs.Reading.{AreTokensOf, IsFaultOf, Rise};
 ghost use Rattle.v_lexer.specs.Tokens.{given, fault_at, lines_after, tokens_of, Gives};
 
 use crate::fault::{FaultKind, LexFault};
@@ -59,11 +61,13 @@ fn push_given(tokens: &mut Vec<Token>, piece: Piece, at: u32, line: u32) -> Resu
     }
 }
 
-/// The tokens of a text of at most 64 MiB, or its first lexical fault.
+/// The tokens of a text, or its first lexical fault, with the pieces that show it.
 #[tactic(auto, unfolding(crate::specs::Tokens::tokens_of))]
-pub fn tokens(alloc: Global, text: &[u8]) -> Result<TokenList, LexFault>
+fn lexed(alloc: Global, text: &[u8]) -> Result<TokenList, LexFault>
     requires { length text.now ≤ 67108864 }
     ensures exact { Gives (λ tokens. tokens) result (tokens_of text.now) }
+    ensures found { IfOk result (λ tokens. AreTokensOf text.now tokens) }
+    ensures fault { IfErr result (λ fault. IsFaultOf text.now fault) }
 {
     let words = Words::new(alloc)?;
     let mut tokens = Vec::new(alloc);
@@ -90,4 +94,24 @@ pub fn tokens(alloc: Global, text: &[u8]) -> Result<TokenList, LexFault>
         line,
     })?;
     Ok(TokenList::from_vec(tokens))
+}
+
+/// The tokens of a text of at most 64 MiB, the last of which is its end.
+///
+/// A token is the longest form at its place. Its places count bytes from 0, its line from 1. The
+/// error is the first lexical fault of the text; `Memory` says nothing of the text.
+pub fn tokens(alloc: Global, text: &[u8]) -> Result<TokenList, LexFault>
+    requires { length text.now ≤ 67108864 }
+    // The tokens or the fault that the definition gives.
+    ensures exact { Gives (λ tokens. tokens) result (tokens_of text.now) }
+    // The text is these tokens, with blanks, comments and attributes between them.
+    ensures found { IfOk result (λ tokens. AreTokensOf text.now tokens) }
+    // There is no other list of tokens that the text is.
+    ensures only { (tokens : List Token) → AreTokensOf text.now tokens → Gives (λ tokens. tokens) result (Ok tokens) }
+    // Tokens don't overlap.
+    ensures rising { IfOk result (λ tokens. Rise 0 tokens) }
+    // The fault is the first, and has its line.
+    ensures fault { IfErr result (λ fault. IsFaultOf text.now fault) }
+{
+    lexed(alloc, text)
 }

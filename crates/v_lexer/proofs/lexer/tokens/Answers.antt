@@ -1,24 +1,14 @@
-use Rattle.std.proofs.Common.{rules, ◌≡◌, ◌<◌, ◌≤◌, ◌+◌, length, arith, sym, ◌∙◌}
-use Rattle.v_lexer.specs.Tokens.{tokens_of}
-use Rattle.v_lexer.proofs.Whole.{tokens_go_on, tokens_fail, tokens_end}
+use Rattle.std.proofs.Common.{rules, ◌≡◌, List, sym, subst}
+use Rattle.std.specs.Prelude.{Ok}
+use Rattle.v_lexer.specs.declared.token.Token.{Token}
+use Rattle.v_lexer.specs.Tokens.{Lexed, Gives}
+use Rattle.v_lexer.specs.Reading.{AreTokensOf}
+use Rattle.v_lexer.proofs.Pieces.{reads_only, are_rising, rising_ok}
 use Rattle.v_lexer.proofs.lexer.tokens.Goals as goal
 
-pub returns-in-Err : goal.returns-in-Err
-returns-in-Err c =
-    let some : 0 < length c.loop-rest.rest.now = search rules in
-    record { exact = rw c.fault_at.ensures (tokens_fail c.loop-rest.tokens.items c.loop-rest.rest.now c.loop-rest.table c.loop-rest.at c.loop-rest.line c.in-Err.kind (tokens_of c.args.text.now) some (sym c.in-Err.ensures.at) c.loop-rest.invariant.so_far) }
+pub returns-clause-only : goal.returns-clause-only
+returns-clause-only c = λ (tokens : List Token) (are : AreTokensOf c.args.text.now tokens).
+    subst (λ (lexed : Lexed). Gives (λ (ts : List Token). ts) c.lexed.result lexed) (reads_only c.args.text.now tokens are) c.lexed.ensures.exact
 
-pub loop-rest-preserved : goal.loop-rest-preserved
-loop-rest-preserved c =
-    let within : c.in-Ok.piece.len ≤ length c.loop-rest.rest.now = search rules in
-    record {
-      so_far = tokens_go_on c.loop-rest.tokens.items c.push_given.new.tokens.items c.loop-rest.rest.now c.loop-rest.table c.loop-rest.at c.loop-rest.line c.in-Ok.piece c.table_after-table.result c.lines_after-line.result c.split_at.result.0.now c.split_at.result.1.now (tokens_of c.args.text.now)
-          (sym c.in-Ok.ensures.at) c.in-Ok.ensures.within.0 c.in-Ok.ensures.within.1 c.in_ok-push_given.ensures.ok c.table_after-table.ensures c.split_at.ensures.front c.lines_after-line.ensures.line c.split_at.ensures.back c.loop-rest.invariant.so_far;
-      place = omega (arith, c.split_at.ensures.back_len, c.loop-rest.invariant.place);
-      line = omega (arith, c.lines_after-line.ensures.bound, c.split_at.ensures.front_len, c.loop-rest.invariant.line);
-    }
-
-pub returns : goal.returns
-returns c =
-    let none : length c.loop-rest.rest.now ≡ 0 = search rules in
-    record { exact = tokens_end c.loop-rest.tokens.items c.push.new.self.items c.loop-rest.rest.now c.loop-rest.table c.loop-rest.at c.loop-rest.line (tokens_of c.args.text.now) none c.in_ok-push.ensures.items c.loop-rest.invariant.so_far ∙ search rules }
+pub returns-clause-rising : goal.returns-clause-rising
+returns-clause-rising c = rising_ok c.args.text.now c.lexed.result c.lexed.ensures.found
