@@ -1,0 +1,14 @@
+use Rattle.std.proofs.Common.{rules, ◌≡◌, List, sym, subst}
+use Rattle.std.specs.Prelude.{Ok}
+use Rattle.v_lexer.specs.declared.token.Token.{Token}
+use Rattle.v_lexer.specs.Tokens.{Lexed, Gives}
+use Rattle.v_lexer.specs.Reading.{AreTokensOf}
+use Rattle.v_lexer.proofs.Pieces.{reads_only, are_rising, rising_ok}
+use Rattle.v_lexer.proofs.lexer.tokens.Goals as goal
+
+pub returns-clause-only : goal.returns-clause-only
+returns-clause-only c = λ (tokens : List Token) (are : AreTokensOf c.args.text.now tokens).
+    subst (λ (lexed : Lexed). Gives (λ (ts : List Token). ts) c.lexed.result lexed) (reads_only c.args.text.now tokens are) c.lexed.ensures.exact
+
+pub returns-clause-rising : goal.returns-clause-rising
+returns-clause-rising c = rising_ok c.args.text.now c.lexed.result c.lexed.ensures.found

@@ -1,0 +1,13 @@
+use Rattle.std.proofs.Common.{rules, ◌≡◌, ◌<◌, ◌-◌, ◌++◌, ◌∷◌, [], arith, ap, ◌∙◌}
+use Rattle.v_lexer.specs.Literals.{binary}
+use Rattle.v_lexer.proofs.Digits.{binary_go_on, binary_done}
+use Rattle.v_lexer.proofs.values.binary.Goals as goal
+
+pub loop-i-preserved : goal.loop-i-preserved
+loop-i-preserved c =
+    binary_go_on c.args.n c.loop-i.i c.args.value c.loop-i.bits.items c.push.new.self.items (binary c.args.n c.args.value) c.loop-i-test.true
+    (c.in_ok-push.ensures.items ∙ ap (λ b. c.loop-i.bits.items ++ b ∷ []) c.bit_of.ensures) c.loop-i.invariant
+
+pub returns : goal.returns
+returns c =
+    binary_done (c.args.n - c.loop-i.i) c.args.value c.loop-i.bits.items (binary c.args.n c.args.value) (omega arith) c.loop-i.invariant

@@ -1,0 +1,11 @@
+pub mod Bytes
+pub mod Quoted
+pub mod Gaps
+pub mod Numbers
+pub mod Literals
+pub mod Needed
+pub mod Words
+pub mod Places
+pub mod Tokens
+pub mod Values
+pub mod Reading

@@ -1,0 +1,24 @@
+//! The tokens of a netlist text, or its first lexical fault.
+#![tactic(auto)]
+
+mod bytes;
+mod fault;
+mod gaps;
+mod lexer;
+mod lists;
+mod literals;
+mod numbers;
+mod places;
+mod quoted;
+#[cfg(test)]
+mod tests;
+mod token;
+mod values;
+mod words;
+
+pub use fault::LexFault;
+pub use lexer::tokens;
+pub use lists::{BitList, TokenList};
+pub use literals::{Base, Bit};
+pub use token::{Token, TokenKind};
+pub use values::{Literal, literal_value, name_text, number_value};
