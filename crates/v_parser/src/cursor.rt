@@ -1,0 +1,312 @@
+//! A cursor over the tokens of a text.
+
+ghost use Rattle.std.specs.Prelude.{◌≡◌, ◌≤◌, ◌<◌, ◌∷◌, [], IfOk, IfSome, IfNone, length, take, drop, ◌-◌};
+ghost use Rattle.v_lexer.specs.declared.token.TokenKind.TheVariants.{End};
+ghost use Rattle.v_tree.specs.Written.{slice_of};
+ghost use Rattle.name_table.specs.Names.{is_among};
+ghost use Rattle.v_lexer.specs.Bytes.{first};
+ghost use Rattle.v_lexer.specs.Words.{is_in_word, words_of};
+ghost use Rattle.std.specs.Option.{option_copied};
+ghost use Rattle.std.specs.List.{prefix_len};
+ghost use Rattle.std.specs.Str.{bytes_eq};
+ghost use Rattle.v_parser.specs.Input as spec;
+ghost use Rattle.v_parser.specs.Input.{Reads};
+
+use crate::fault::ParseFault;
+use flat_net::Bytes;
+use std::alloc::{AllocError, Global};
+use std::marker::Model;
+use v_lexer::{Token, TokenKind, name_text, number_value};
+use v_tree::{Name, Place};
+
+/// The tokens that are left, and the text that they stand in.
+#[derive(Drop)]
+pub struct Cursor<'a> {
+    alloc: Global,
+    text: &'a [u8],
+    tokens: &'a [Token],
+    number: u32,
+}
+
+impl<'a> Model for Cursor<'a> {
+    ghost use Rattle.v_parser.specs.Input.{Input};
+
+    ghost Value = { Input };
+
+    ghost use Rattle.v_parser.specs.Cursor.{input_of, HasNumbers};
+
+    ghost view = { input_of };
+
+    ghost invariant = { HasNumbers };
+}
+
+/// The bytes from one place to another, as far as they lie in the text.
+fn piece(text: &[u8], start: usize, end: usize) -> &[u8]
+    ensures { result.now ≡ take (end - start) (drop start text.now) }
+{
+    let (_, rest) = text.split_at(start.min(text.len()));
+    let (front, _) = rest.split_at(end.saturating_sub(start).min(rest.len()));
+    front
+}
+
+/// Whether a word is this one.
+pub fn is(word: &[u8], name: &[u8]) -> bool
+    ensures { result ≡ bytes_eq word.now name.now }
+{
+    word == name
+}
+
+/// The first byte, or 0.
+fn first(bytes: &[u8]) -> u8
+    ensures { result ≡ first bytes.now }
+{
+    match bytes {
+        [byte, ..] => *byte,
+        [] => 0,
+    }
+}
+
+/// The words that the grammar leaves out.
+const UNSUPPORTED: &[u8] =
+    b"always automatic begin case casex casez deassign defparam disable edge else end endcase endfunction endgenerate endspecify endtask event for force forever fork function generate genvar if initial integer join localparam negedge parameter posedge real realtime reg release repeat signed specify specparam task time unsigned uwire wait while";
+
+/// The bytes after the first.
+fn after_first(bytes: &[u8]) -> &[u8]
+    ensures { result.now ≡ drop 1 bytes.now }
+{
+    match bytes {
+        [_, rest @ ..] => rest,
+        [] => bytes,
+    }
+}
+
+/// How many bytes stand before the first space.
+fn word_run(text: &[u8]) -> usize
+    ensures len { result ≡ prefix_len is_in_word text.now }
+    ensures within { result ≤ length text.now }
+{
+    text.iter().take_while(|byte| **byte != b' ').count()
+}
+
+/// The first word of a text of words, and the text after it.
+#[tactic(auto, using(crate::proofs::WordLists::none_left))]
+fn first_word(text: &[u8]) -> Option<(&[u8], &[u8])>
+    ensures first { IfSome result (λ x. words_of text.now ≡ x.0.now ∷ words_of x.1.now) }
+    ensures shorter { IfSome result (λ x. length x.1.now < length text.now) }
+    ensures none { IfNone result (words_of text.now ≡ []) }
+{
+    if text.is_empty() {
+        return None;
+    }
+    let len = word_run(text);
+    let (front, back) = text.split_at(len);
+    Some((front, after_first(back)))
+}
+
+/// Whether a word stands in a text of words.
+fn is_word_of(text: &[u8], word: &[u8]) -> bool
+    ensures { result ≡ is_among word.now (words_of text.now) }
+{
+    let mut rest = text;
+    while let Some((front, back)) = first_word(rest) {
+        if is(word, front) {
+            return true;
+        }
+        rest = back;
+    }
+    false
+}
+
+/// Whether a token of a kind belongs to what the grammar leaves out.
+#[tactic(auto, unfolding(crate::specs::Input::unsupported_words))]
+fn is_left_out(kind: TokenKind, bytes: &[u8]) -> bool
+    ensures { result ≡ spec.is_left_out kind bytes.now }
+{
+    match kind {
+        TokenKind::Directive | TokenKind::Decimal | TokenKind::Exponent => true,
+        TokenKind::Word => is_word_of(UNSUPPORTED, bytes),
+        _ => false,
+    }
+}
+
+/// A copy of bytes.
+fn copy_of(alloc: Global, bytes: &[u8]) -> Result<Bytes, AllocError>
+    ensures { IfOk result (λ copy. copy ≡ bytes.now) }
+{
+    Ok(Bytes::from_vec(bytes.to_vec(alloc)?))
+}
+
+#[tactic(auto, unfolding(crate::specs::Input::front, crate::specs::Input::place, crate::specs::Input::next, crate::specs::Input::kind_of, crate::specs::Input::bytes, crate::specs::Input::refusal, crate::specs::Input::mark, crate::specs::Input::skip, crate::specs::Input::word, crate::specs::Input::name, crate::specs::Input::number, v_tree::specs::Written::form_of))]
+impl<'a> Cursor<'a> {
+    /// What kind the next token is: the end, where no token is left.
+    fn kind(&self) -> TokenKind
+        ensures { result ≡ spec.kind_of self.now }
+    {
+        match self.tokens {
+            [token, ..] => token.kind,
+            [] => TokenKind::End,
+        }
+    }
+
+    /// The bytes of the next token.
+    fn bytes(&self) -> &'a [u8]
+        ensures { result.now ≡ spec.bytes self.now }
+    {
+        match self.tokens {
+            [token, ..] => piece(self.text, token.start as usize, token.end as usize),
+            [] => &[],
+        }
+    }
+
+    /// Where the next token stands.
+    pub fn place(&self) -> Place
+        ensures { result ≡ spec.place self.now }
+    {
+        let line = match self.tokens {
+            [token, ..] => token.line,
+            [] => 0,
+        };
+        Place {
+            line,
+            token: self.number,
+        }
+    }
+
+    /// Goes on to the token after the next.
+    pub fn advance(&mut self)
+        ensures { self.new ≡ spec.next self.old }
+    {
+        if let [_, rest @ ..] = self.tokens {
+            self.tokens = rest;
+            self.number += 1;
+        }
+    }
+
+    /// Whether the next token is this mark.
+    pub fn sees_mark(&self, byte: u8) -> bool
+        ensures { result ≡ spec.is_mark byte (spec.front self.now) }
+    {
+        match self.tokens {
+            [token, ..] if token.kind == TokenKind::Mark => first(self.bytes()) == byte,
+            _ => false,
+        }
+    }
+
+    /// Whether the next token is this word.
+    pub fn sees_word(&self, word: &[u8]) -> bool
+        ensures { result ≡ spec.is_word word.now (spec.front self.now) }
+    {
+        match self.tokens {
+            [token, ..] if token.kind == TokenKind::Word => is(self.bytes(), word),
+            _ => false,
+        }
+    }
+
+    /// The next token's bytes, where it is a reserved word.
+    pub fn seen_word(&self) -> Option<&'a [u8]>
+        ensures { option_copied result ≡ spec.word_in (spec.front self.now) }
+    {
+        if self.kind() == TokenKind::Word {
+            Some(self.bytes())
+        } else {
+            None
+        }
+    }
+
+    /// Whether the next token belongs to what the grammar leaves out.
+    fn is_unsupported(&self) -> bool
+        ensures { result ≡ spec.is_unsupported_in self.now.text self.now.tokens }
+    {
+        match self.tokens {
+            [token, ..] => is_left_out(token.kind, self.bytes()),
+            [] => false,
+        }
+    }
+
+    /// Why the next token is refused.
+    pub fn refuse(&self) -> ParseFault
+        ensures { result ≡ spec.refusal self.now }
+    {
+        if self.is_unsupported() {
+            ParseFault::Unsupported(self.number)
+        } else {
+            ParseFault::Syntax(self.number)
+        }
+    }
+
+    /// A mark, with its place.
+    pub fn mark(&mut self, byte: u8) -> Result<Place, ParseFault>
+        ensures { Reads (spec.mark byte self.old) result self.new }
+    {
+        if self.sees_mark(byte) {
+            let place = self.place();
+            self.advance();
+            Ok(place)
+        } else {
+            Err(self.refuse())
+        }
+    }
+
+    /// A mark.
+    pub fn skip(&mut self, byte: u8) -> Result<(), ParseFault>
+        ensures { Reads (spec.skip byte self.old) result self.new }
+    {
+        if self.sees_mark(byte) {
+            self.advance();
+            Ok(())
+        } else {
+            Err(self.refuse())
+        }
+    }
+
+    /// A word, with its place.
+    pub fn word(&mut self, word: &[u8]) -> Result<Place, ParseFault>
+        ensures { Reads (spec.word word.now self.old) result self.new }
+    {
+        if self.sees_word(word) {
+            let place = self.place();
+            self.advance();
+            Ok(place)
+        } else {
+            Err(self.refuse())
+        }
+    }
+
+    /// A name.
+    pub fn name(&mut self) -> Result<Name, ParseFault>
+        ensures { Reads (spec.name self.old) result self.new }
+    {
+        if self.kind() == TokenKind::Name {
+            let place = self.place();
+            let text = copy_of(self.alloc, name_text(self.bytes()))?;
+            self.advance();
+            Ok(Name { place, text })
+        } else {
+            Err(self.refuse())
+        }
+    }
+
+    /// The next token as a number, where it is one.
+    fn value(&self) -> Option<u32>
+        ensures { result ≡ spec.number_in (spec.front self.now) }
+    {
+        if self.kind() == TokenKind::Number {
+            number_value(self.bytes())
+        } else {
+            None
+        }
+    }
+
+    /// A number.
+    pub fn number(&mut self) -> Result<u32, ParseFault>
+        ensures { Reads (spec.number self.old) result self.new }
+    {
+        match self.value() {
+            Some(value) => {
+                self.advance();
+                Ok(value)
+            }
+            None => Err(self.refuse()),
+        }
+    }
+}

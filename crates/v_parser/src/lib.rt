@@ -1,0 +1,8 @@
+//! The tree of a list of tokens, or the first token that the grammar refuses.
+#![tactic(auto)]
+
+mod cursor;
+mod drives;
+mod fault;
+
+pub use fault::ParseFault;

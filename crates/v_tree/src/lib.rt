@@ -1,0 +1,32 @@
+//! The syntax tree of a netlist: a type for each rule of the grammar, with a field for each part of the
+//! rule, a list for each repetition and a variant for each choice.
+#![tactic(auto)]
+
+mod declarations;
+mod drives;
+mod expressions;
+mod gates;
+mod modules;
+mod places;
+mod primitives;
+
+pub use declarations::{
+    AssignItem, Declared, Direction, NetDecl, NetType, Pair, PairList, PortDecl, Spread,
+    SpreadWord, TriregDecl, ValuedName, ValuedNameList,
+};
+pub use drives::{
+    Charge, Delay, DelaySpec, DelayValue, DelayValueList, Drive, Level, PullLevels, Strength,
+};
+pub use expressions::{Expr, ExprList, Pick, Range, Select, Target, TargetList};
+pub use gates::{
+    Connection, ConnectionList, Connections, GateItem, GateKind, Inst, InstList, Instance,
+    LogicGate, OptionalExprList, PullGate, Switch, Terms, TermsList, TranGate,
+};
+pub use modules::{
+    AnsiEntry, AnsiEntryList, AnsiPort, File, Item, ItemList, Module, ModuleList, ModuleWord, Ports,
+};
+pub use places::{Name, Place, PlacedNameList};
+pub use primitives::{
+    Lit, PlacedRow, PlacedRowList, UdpDecl, UdpDeclList, UdpInitial, UdpInput, UdpInputList,
+    UdpItem, UdpItemList, UdpPorts,
+};

@@ -1,0 +1,77 @@
+use crate::declarations::{AssignItem, Direction, NetDecl, NetType, PortDecl, TriregDecl};
+use crate::expressions::Range;
+use crate::gates::{GateItem, Instance};
+use crate::places::{Name, Place, PlacedNameList};
+use crate::primitives::UdpDeclList;
+use sqlite_items::Items;
+
+/// The word that begins a module.
+#[derive(Clone, Copy, Debug, PartialEq, Eq)]
+pub enum ModuleWord {
+    Module,
+    Macromodule,
+}
+
+/// `dir [ nettype ] [ range ] Name` in a header. The place is that of the direction.
+#[derive(Debug, Drop)]
+pub struct AnsiPort {
+    pub place: Place,
+    pub direction: Direction,
+    pub net_type: Option<NetType>,
+    pub range: Option<Range>,
+    pub name: Name,
+}
+
+/// A port with its direction, or a name that continues the direction, type and range before it.
+#[derive(Debug, Drop)]
+pub enum AnsiEntry {
+    Port(AnsiPort),
+    Name(Name),
+}
+
+/// Entries, each behind a comma.
+pub type AnsiEntryList = Items<AnsiEntry>;
+
+/// The ports in the header of a module: no parentheses, nothing in them, names, or declarations (IEEE
+/// 1364-2005, 12.3.1 and 12.3.4).
+#[derive(Debug, Drop)]
+pub enum Ports {
+    Absent,
+    Empty,
+    Names(PlacedNameList),
+    Ansi(AnsiPort, AnsiEntryList),
+}
+
+/// An item of a module.
+#[derive(Drop)]
+pub enum Item {
+    Ports(PortDecl),
+    Nets(NetDecl),
+    Trireg(TriregDecl),
+    Assign(AssignItem),
+    Gates(GateItem),
+    Instances(Instance),
+}
+
+/// Items in their order.
+pub type ItemList = Items<Item>;
+
+/// A module (IEEE 1364-2005, 12.1). The place is that of its first word.
+#[derive(Drop)]
+pub struct Module {
+    pub place: Place,
+    pub word: ModuleWord,
+    pub name: Name,
+    pub ports: Ports,
+    pub items: ItemList,
+}
+
+/// Modules in their order.
+pub type ModuleList = Items<Module>;
+
+/// A netlist text: its modules, and its user-defined primitives.
+#[derive(Drop)]
+pub struct File {
+    pub modules: ModuleList,
+    pub udps: UdpDeclList,
+}
