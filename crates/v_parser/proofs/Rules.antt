@@ -69,15 +69,15 @@ takes_second = ?
 
 -- ---- rules
 
-pub token_rule : {A : Type 0} (pick : Form → Option A) (form : A → Form) (IsFit : A → Type 0) → pick form.Other ≡ None → ((f : Form) (x : A) → pick f ≡ Some x → f ≡ form x)
-    → ((f : Form) (x : A) → IsSoundForm f → pick f ≡ Some x → IsFit x) → ((x : A) → IsFit x → pick (form x) ≡ Some x)
-    → Rule (token pick) (λ (z : A × Place). at z.1 (form z.0) ∷ []) (λ (z : A × Place). IsFit z.0) anything
+pub token_rule : {A : Type 0} (pick : Form → Option A) (says : A → Form) (IsFit : A → Type 0) → pick form.Other ≡ None → ((f : Form) (x : A) → pick f ≡ Some x → f ≡ says x)
+    → ((f : Form) (x : A) → IsSoundForm f → pick f ≡ Some x → IsFit x) → ((x : A) → IsFit x → pick (says x) ≡ Some x)
+    → Rule (token pick) (λ (z : A × Place). at z.1 (says z.0) ∷ []) (λ (z : A × Place). IsFit z.0) anything
 token_rule = ?
 
 -- a token whose place isn't kept
-pub bare_rule : {A : Type 0} (pick : Form → Option A) (form : A → Form) (IsFit : A → Type 0) → pick form.Other ≡ None → ((f : Form) (x : A) → pick f ≡ Some x → f ≡ form x)
-    → ((f : Form) (x : A) → IsSoundForm f → pick f ≡ Some x → IsFit x) → ((x : A) → IsFit x → pick (form x) ≡ Some x)
-    → Rule ((λ (z : A × Place). z.0) <$> token pick) (λ (x : A). bare (form x) ∷ []) IsFit anything
+pub bare_rule : {A : Type 0} (pick : Form → Option A) (says : A → Form) (IsFit : A → Type 0) → pick form.Other ≡ None → ((f : Form) (x : A) → pick f ≡ Some x → f ≡ says x)
+    → ((f : Form) (x : A) → IsSoundForm f → pick f ≡ Some x → IsFit x) → ((x : A) → IsFit x → pick (says x) ≡ Some x)
+    → Rule ((λ (z : A × Place). z.0) <$> token pick) (λ (x : A). bare (says x) ∷ []) IsFit anything
 bare_rule = ?
 
 -- the same parts under another type
