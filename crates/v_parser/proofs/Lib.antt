@@ -1,2 +1,1 @@
 pub mod WordLists
-pub mod Rules

@@ -139,8 +139,28 @@ abbrev pub number_in : Form → Option ℕ
 number_in (form.Number n) = Some n
 number_in _ = None
 
+-- a number, with its place
+unfoldable pub placed_number : Reader (ℕ × Place)
+placed_number = token number_in
+
 unfoldable pub number : Reader ℕ
-number = (λ p. p.0) <$> token number_in
+number = (λ p. p.0) <$> placed_number
+
+abbrev pub based_in : Form → Option Literal
+based_in (form.Based literal) = Some literal
+based_in _ = None
+
+-- a based number, with its place
+unfoldable pub placed_based : Reader (Literal × Place)
+placed_based = token based_in
+
+abbrev pub is_name : Form → Bool
+is_name (form.Name text) = true
+is_name _ = false
+
+abbrev pub is_number : Form → Bool
+is_number (form.Number n) = true
+is_number _ = false
 
 abbrev pub is_mark : ℕ → Form → Bool
 is_mark byte (form.Mark b) = b == byte
@@ -163,7 +183,7 @@ mark byte = (λ p. p.1) <$> token (λ f. where_true (is_mark byte f))
 
 -- a mark
 unfoldable pub skip : ℕ → Reader (Unit {0})
-skip byte = (λ p. tt) <$> token (λ f. where_true (is_mark byte f))
+skip byte = (λ p. p.0) <$> token (λ f. where_true (is_mark byte f))
 
 -- a word, with its place
 unfoldable pub word : List ℕ → Reader Place
@@ -178,6 +198,10 @@ optional sees p = λ i. if sees (front i) (front (next i)) then (Some <$> p) i e
 -- one of two readers, by the next two tokens
 unfoldable pub choice : {A : Type 0} → (Form → Form → Bool) → Reader A → Reader A → Reader A
 choice sees p q = λ i. if sees (front i) (front (next i)) then p i else q i
+
+-- what is left after a comma, where one comes next
+abbrev pub passed_comma : Input → Input
+passed_comma i = if is_mark 44 (front i) then next i else i
 
 -- parts, each behind a comma, put behind those that were found, in so many turns at most
 unfoldable pub commas_from : {A : Type 0} → Reader A → ℕ → List A → Reader (List A)

@@ -1,3 +1,4 @@
 pub mod Input
 pub mod Cursor
 pub mod Drives
+pub mod Expressions

@@ -16,7 +16,7 @@ use crate::fault::ParseFault;
 use flat_net::Bytes;
 use std::alloc::{AllocError, Global};
 use std::marker::Model;
-use v_lexer::{Token, TokenKind, name_text, number_value};
+use v_lexer::{Literal, Token, TokenKind, literal_value, name_text, number_value};
 use v_tree::{Name, Place};
 
 /// The tokens that are left, and the text that they stand in.
@@ -136,7 +136,7 @@ fn copy_of(alloc: Global, bytes: &[u8]) -> Result<Bytes, AllocError>
     Ok(Bytes::from_vec(bytes.to_vec(alloc)?))
 }
 
-#[tactic(auto, unfolding(crate::specs::Input::front, crate::specs::Input::place, crate::specs::Input::next, crate::specs::Input::kind_of, crate::specs::Input::bytes, crate::specs::Input::refusal, crate::specs::Input::mark, crate::specs::Input::skip, crate::specs::Input::word, crate::specs::Input::name, crate::specs::Input::number, v_tree::specs::Written::form_of))]
+#[tactic(auto, unfolding(crate::specs::Input::front, crate::specs::Input::place, crate::specs::Input::next, crate::specs::Input::kind_of, crate::specs::Input::bytes, crate::specs::Input::refusal, crate::specs::Input::mark, crate::specs::Input::skip, crate::specs::Input::word, crate::specs::Input::name, crate::specs::Input::number, crate::specs::Input::placed_number, crate::specs::Input::placed_based, v_tree::specs::Written::form_of))]
 impl<'a> Cursor<'a> {
     /// What kind the next token is: the end, where no token is left.
     fn kind(&self) -> TokenKind
@@ -297,14 +297,74 @@ impl<'a> Cursor<'a> {
         }
     }
 
+    /// A number, with its place.
+    pub fn placed_number(&mut self) -> Result<(u32, Place), ParseFault>
+        ensures { Reads (spec.placed_number self.old) result self.new }
+    {
+        match self.value() {
+            Some(value) => {
+                let place = self.place();
+                self.advance();
+                Ok((value, place))
+            }
+            None => Err(self.refuse()),
+        }
+    }
+
     /// A number.
     pub fn number(&mut self) -> Result<u32, ParseFault>
         ensures { Reads (spec.number self.old) result self.new }
     {
-        match self.value() {
-            Some(value) => {
+        let (value, _) = self.placed_number()?;
+        Ok(value)
+    }
+
+    /// How many tokens are left.
+    pub fn left(&self) -> usize
+        ensures { result ≡ length self.now.tokens }
+    {
+        self.tokens.len()
+    }
+
+    /// What memory for the tree comes from.
+    pub fn alloc(&self) -> Global {
+        self.alloc
+    }
+
+    /// Whether the next token is a name.
+    pub fn sees_name(&self) -> bool
+        ensures { result ≡ spec.is_name (spec.front self.now) }
+    {
+        self.kind() == TokenKind::Name
+    }
+
+    /// Whether the next token is a number.
+    pub fn sees_number(&self) -> bool
+        ensures { result ≡ spec.is_number (spec.front self.now) }
+    {
+        self.value().is_some()
+    }
+
+    /// The next token as a literal, where it is one.
+    fn literal(&self) -> Result<Option<Literal>, AllocError>
+        ensures { IfOk result (λ literal. literal ≡ spec.based_in (spec.front self.now)) }
+    {
+        if self.kind() == TokenKind::Based {
+            literal_value(self.alloc, self.bytes())
+        } else {
+            Ok(None)
+        }
+    }
+
+    /// A based number, with its place.
+    pub fn placed_based(&mut self) -> Result<(Literal, Place), ParseFault>
+        ensures { Reads (spec.placed_based self.old) result self.new }
+    {
+        match self.literal()? {
+            Some(literal) => {
+                let place = self.place();
                 self.advance();
-                Ok(value)
+                Ok((literal, place))
             }
             None => Err(self.refuse()),
         }

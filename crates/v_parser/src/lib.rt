@@ -3,6 +3,7 @@
 
 mod cursor;
 mod drives;
+mod expressions;
 mod fault;
 
 pub use fault::ParseFault;

@@ -1,0 +1,128 @@
+//! Ranges, selects, expressions and targets.
+
+ghost use Rattle.std.specs.Prelude.{◌≡◌, ◌<◌, ◌≤◌};
+ghost use Rattle.v_parser.specs.Input as input;
+ghost use Rattle.v_parser.specs.Input.{Reads};
+ghost use Rattle.v_parser.specs.Expressions as spec;
+
+use crate::cursor::Cursor;
+use crate::fault::ParseFault;
+use sqlite_items::Items;
+use v_tree::{Expr, ExprList, Pick, Range, Select, Target, TargetList};
+
+/// `[ number : number ]`
+#[tactic(auto, unfolding(crate::specs::Expressions::range))]
+pub fn range(cursor: &mut Cursor<'_>) -> Result<Range, ParseFault>
+    ensures { Reads (spec.range cursor.old) result cursor.new }
+{
+    cursor.skip(b'[')?;
+    let left = cursor.number()?;
+    cursor.skip(b':')?;
+    let right = cursor.number()?;
+    cursor.skip(b']')?;
+    Ok(Range { left, right })
+}
+
+/// `: number`
+#[tactic(auto, unfolding(crate::specs::Expressions::bound))]
+fn bound(cursor: &mut Cursor<'_>) -> Result<u32, ParseFault>
+    ensures { Reads (spec.bound cursor.old) result cursor.new }
+{
+    cursor.skip(b':')?;
+    cursor.number()
+}
+
+/// `: number`, where a `:` comes next.
+#[tactic(auto, unfolding(crate::specs::Input::optional))]
+fn bound_if_there(cursor: &mut Cursor<'_>) -> Result<Option<u32>, ParseFault>
+    ensures { Reads (input.optional (spec.sees_mark 58) spec.bound cursor.old) result cursor.new }
+{
+    if cursor.sees_mark(b':') {
+        Ok(Some(bound(cursor)?))
+    } else {
+        Ok(None)
+    }
+}
+
+/// `[ number ]` or `[ number : number ]`
+#[tactic(auto, unfolding(crate::specs::Expressions::select))]
+fn select(cursor: &mut Cursor<'_>) -> Result<Select, ParseFault>
+    ensures { Reads (spec.select cursor.old) result cursor.new }
+{
+    cursor.skip(b'[')?;
+    let left = cursor.number()?;
+    let right = bound_if_there(cursor)?;
+    cursor.skip(b']')?;
+    Ok(Select { left, right })
+}
+
+/// A select, where a `[` comes next.
+#[tactic(auto, unfolding(crate::specs::Input::optional))]
+fn select_if_there(cursor: &mut Cursor<'_>) -> Result<Option<Select>, ParseFault>
+    ensures { Reads (input.optional (spec.sees_mark 91) spec.select cursor.old) result cursor.new }
+{
+    if cursor.sees_mark(b'[') {
+        Ok(Some(select(cursor)?))
+    } else {
+        Ok(None)
+    }
+}
+
+/// A name, with a select or without one.
+#[tactic(auto, unfolding(crate::specs::Expressions::pick))]
+fn pick(cursor: &mut Cursor<'_>) -> Result<Pick, ParseFault>
+    ensures { Reads (spec.pick cursor.old) result cursor.new }
+{
+    let name = cursor.name()?;
+    let select = select_if_there(cursor)?;
+    Ok(Pick { name, select })
+}
+
+/// A pick, a number or a based number.
+#[tactic(auto, unfolding(crate::specs::Expressions::atom, crate::specs::Input::choice))]
+fn atom(cursor: &mut Cursor<'_>) -> Result<Expr, ParseFault>
+    ensures { Reads (spec.atom cursor.old) result cursor.new }
+{
+    if cursor.sees_name() {
+        return Ok(Expr::Pick(pick(cursor)?));
+    }
+    if cursor.sees_number() {
+        let (value, place) = cursor.placed_number()?;
+        return Ok(Expr::Number(place, value));
+    }
+    let (literal, place) = cursor.placed_based()?;
+    Ok(Expr::Based(place, literal))
+}
+
+/// Whether a comma comes next, which is passed.
+fn passes_comma(cursor: &mut Cursor<'_>) -> bool
+    ensures seen { result ≡ input.is_mark 44 (input.front cursor.old) }
+    ensures passed { cursor.new ≡ input.passed_comma cursor.old }
+{
+    let sees = cursor.sees_mark(b',');
+    if sees {
+        cursor.advance();
+    }
+    sees
+}
+
+/// An expression with concatenations so deep at most.
+#[tactic(auto, unfolding(crate::specs::Expressions::expr_at, crate::specs::Input::choice, crate::specs::Input::separated, crate::specs::Input::commas))]
+fn expr_at(cursor: &mut Cursor<'_>, depth: u32) -> Result<Expr, ParseFault>
+    ensures { Reads (spec.expr_at depth cursor.old) result cursor.new }
+{
+    if depth == 0 || !cursor.sees_mark(b'{') {
+        return atom(cursor);
+    }
+    let place = cursor.mark(b'{')?;
+    let mut parts = Items::new(cursor.alloc());
+    parts.push(expr_at(cursor, depth - 1)?)?;
+    for _ in 0..cursor.left() {
+        if !passes_comma(cursor) {
+            break;
+        }
+        parts.push(expr_at(cursor, depth - 1)?)?;
+    }
+    cursor.skip(b'}')?;
+    Ok(Expr::Concat(place, parts))
+}
