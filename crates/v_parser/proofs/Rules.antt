@@ -1,5 +1,5 @@
 -- What is read is written so, and what is written so is read: for readers, and for what is made of them.
-use Rattle.std.proofs.Common.{◌≡◌, ℕ, zero, suc, ◌+◌, ◌-◌, ◌<◌, ◌≤◌, ◌^◌, Bool, true, false, not, ◌&&◌, if◌then◌else◌, List, [], ◌∷◌, ◌++◌, length, Option, Some, None, Result, Ok, Err, ◌⊎◌, refl, sym, ap, subst, ◌∙◌, arith, inl, inr}
+use Rattle.std.proofs.Common.{◌≡◌, ℕ, zero, suc, ◌+◌, ◌-◌, ◌<◌, ◌≤◌, ◌^◌, Bool, true, false, not, ◌&&◌, if◌then◌else◌, List, [], ◌∷◌, ◌++◌, length, Option, Some, None, Result, Ok, Err, ◌⊎◌, refl, sym, ap, subst, ◌∙◌, arith, inl, inr, append_assoc, append-nil, length-append}
 use Rattle.std.specs.List.{AllByRecursion}
 use Rattle.v_lexer.specs.declared.token.Token.{Token}
 use Rattle.v_tree.specs.declared.places.Place.{Place}
@@ -7,7 +7,7 @@ use Rattle.v_tree.specs.Written.{Form, form_of, Written, at, bare, IsKept, Stand
 use Rattle.v_tree.specs.Written as form
 use Rattle.v_tree.specs.Fit.{IsSoundForm, AreFit, AreSome, IsFitIfThere}
 use Rattle.v_parser.specs.declared.fault.ParseFault.{ParseFault}
-use Rattle.v_parser.specs.Input.{Input, Outcome, Reader, front, place, next, refusal, and_then, ◌>>=◌, pure, ◌<$>◌, ◌&◌, refuse, token_by, token, is_mark, optional, choice, commas_from, commas, separated, many_from, many}
+use Rattle.v_parser.specs.Input.{Input, Outcome, Reader, front_in, front, place, next_in, next, refusal, and_then, ◌>>=◌, pure, ◌<$>◌, ◌&◌, refuse, token_by, token, is_mark, optional, choice, commas_from, commas, separated, many_from, many}
 
 -- the next token is what is written
 pub record StandsAt (i : Input) (w : Written) : Type 0 where
@@ -52,20 +52,70 @@ pub record Rule {A : Type 0} (read : Reader A) (written : A → List Written) (I
 -- ---- what Takes says
 
 pub takes_join : (a b : List Written) (i m j : Input) → Takes i a m → Takes m b j → Takes i (a ++ b) j
-takes_join = ?
+takes_join [] b i m j h k = subst (λ (n : Input). Takes n b j) (sym h) k
+takes_join (w ∷ a) b i m j h k = (h.0, takes_join a b (next i) m j h.1 k)
+
+-- one token fewer is left after the next one
+next_length : (text : List ℕ) (number : ℕ) (tokens : List Token) → 0 < length tokens → suc (length (next_in text number tokens).tokens) ≡ length tokens
+next_length text number [] h = absurd (omega arith)
+next_length text number (token ∷ tokens) h = refl
+
+next_shorter : (i : Input) → 0 < length i.tokens → suc (length (next i).tokens) ≡ length i.tokens
+unfolding next
+next_shorter i h = next_length i.text i.number i.tokens h
+
+next_sound : (text : List ℕ) (number : ℕ) (tokens : List Token) → length tokens < 2 ^ 32 → AllByRecursion (λ (t : Token). IsSoundForm (form_of text t)) tokens → IsSource (next_in text number tokens)
+next_sound text number [] few sound = record { few = few; sound = sound }
+next_sound text number (token ∷ tokens) few sound = record { few = omega arith; sound = sound.1 }
+
+-- what is left after the next token is as sound
+next_source : (i : Input) → IsSource i → IsSource (next i)
+unfolding next
+next_source i h = next_sound i.text i.number i.tokens h.few h.sound
+
+-- at the end nothing is next, now and later
+end_front : (i : Input) → IsEnd i → front i ≡ form.Other
+unfolding front
+end_front i h = ap (front_in i.text) h
+
+end_next : (i : Input) → IsEnd i → IsEnd (next i)
+unfolding next
+end_next i h = ap (λ (tokens : List Token). (next_in i.text i.number tokens).tokens) h
 
 -- the tokens that are taken are as many as are written
 pub takes_length : (ws : List Written) (i j : Input) → Takes i ws j → length ws + length j.tokens ≡ length i.tokens
-takes_length = ?
+takes_length [] i j h = omega (arith, ap (λ (k : Input). length k.tokens) h)
+takes_length (w ∷ ws) i j h = omega (arith, takes_length ws (next i) j h.1, next_shorter i h.0.some)
 
 pub takes_source : (ws : List Written) (i j : Input) → IsSource i → Takes i ws j → IsSource j
-takes_source = ?
+takes_source [] i j h t = subst IsSource t h
+takes_source (w ∷ ws) i j h t = takes_source ws (next i) j (next_source i h) t.1
 
 pub takes_front : (ws : List Written) (i j : Input) → Takes i ws j → IsEnd j → front i ≡ first_form ws
-takes_front = ?
+takes_front [] i j h end = end_front i (ap (λ (k : Input). k.tokens) h ∙ end)
+takes_front (w ∷ ws) i j h end = h.0.form
 
 pub takes_second : (ws : List Written) (i j : Input) → Takes i ws j → IsEnd j → front (next i) ≡ second_form ws
-takes_second = ?
+takes_second [] i j h end = end_front (next i) (end_next i (ap (λ (k : Input). k.tokens) h ∙ end))
+takes_second (w ∷ ws) i j h end = takes_front ws (next i) j h.1 end
+
+-- ---- steps of readers
+
+-- what was read before what is read in the end
+pub bind_ok : {A B : Type 0} (r : Outcome A) (f : A → Reader B) (y : B × Input) → and_then r f ≡ Ok y → (x : A × Input) × (r ≡ Ok x) × (f x.0 x.1 ≡ Ok y)
+bind_ok (Ok x) f y e = (x, refl, e)
+bind_ok (Err h) f y e = absurd cc
+
+abbrev pub ok_of : {A : Type 0} → A × Input → Outcome A
+ok_of x = Ok x
+
+-- what is read is one thing
+pub ok_is : {A : Type 0} (x y : A × Input) → ok_of x ≡ ok_of y → x ≡ y
+ok_is x y e = cc
+
+-- a first reader's outcome goes to the second
+pub bind_step : {A B : Type 0} (r : Outcome A) (f : A → Reader B) (x : A × Input) → r ≡ Ok x → and_then r f ≡ f x.0 x.1
+bind_step {A} r f x e = ap (λ (o : Outcome A). and_then o f) e
 
 -- ---- rules
 
@@ -84,30 +134,74 @@ bare_rule = ?
 pub map_rule : {A B : Type 0} {p : Reader A} {written : A → List Written} {IsFit : A → Type 0} {may_follow : Follow} → Rule p written IsFit may_follow
     → (make : A → B) (parts : B → A) → ((b : B) → make (parts b) ≡ b) → ((a : A) → parts (make a) ≡ a)
     → Rule (make <$> p) (λ b. written (parts b)) (λ b. IsFit (parts b)) may_follow
-map_rule = ?
+map_rule {A} {B} {p} {written} {IsFit} {may_follow} rule make parts there back = record {
+    takes = λ i j y source e.
+        let a = bind_ok (p i) (λ x. pure (make x)) (y, j) e in
+        let made : B × Input = (make a.0.0, a.0.1) in
+        let t = rule.takes i a.0.1 a.0.0 source a.1 in
+        let same : parts (make a.0.0) ≡ a.0.0 = back a.0.0 in
+        subst (λ (z : B × Input). Takes i (written (parts z.0)) z.1 × IsFit (parts z.0)) (ok_is made (y, j) a.2)
+        (subst (λ (x : A). Takes i (written x) a.0.1 × IsFit x) (sym same) t);
+    again = λ i j y ws t end fit follows.
+        let r = rule.again i j (parts y) ws t end fit follows in
+        (r.0, bind_step (p i) (λ x. pure (make x)) (parts y, r.0) r.1 ∙ ap (λ (z : B). ok_of (z, r.0)) (there y), r.2);
+  }
 
 -- a variant
 pub variant_rule : {A B : Type 0} {p : Reader A} {written : A → List Written} {IsFit : A → Type 0} {may_follow : Follow} → Rule p written IsFit may_follow
     → (make : A → B) (written_all : B → List Written) → ((a : A) → written_all (make a) ≡ written a)
     → Rule (make <$> p) written_all (λ b. (a : A) × (b ≡ make a) × IsFit a) may_follow
-variant_rule = ?
+variant_rule {A} {B} {p} {written} {IsFit} {may_follow} rule make written_all same = record {
+    takes = λ i j y source e.
+        let a = bind_ok (p i) (λ x. pure (make x)) (y, j) e in
+        let made : B × Input = (make a.0.0, a.0.1) in
+        let t = rule.takes i a.0.1 a.0.0 source a.1 in
+        subst (λ (z : B × Input). Takes i (written_all z.0) z.1 × ((x : A) × (z.0 ≡ make x) × IsFit x)) (ok_is made (y, j) a.2)
+        (subst (λ (ws : List Written). Takes i ws a.0.1) (sym (same a.0.0)) t.0, (a.0.0, refl, t.1));
+    again = λ i j y ws t end fit follows.
+        let t' = subst (λ (vs : List Written). Takes i (vs ++ ws) j) (ap written_all fit.1 ∙ same fit.0) t in
+        let r = rule.again i j fit.0 ws t' end fit.2 follows in
+        (r.0, bind_step (p i) (λ x. pure (make x)) (fit.0, r.0) r.1 ∙ ap (λ (z : B). ok_of (z, r.0)) (sym fit.1), r.2);
+  }
 
 -- the same fitness in other words
 pub refit_rule : {A : Type 0} {p : Reader A} {written : A → List Written} {IsFit IsFit' : A → Type 0} {may_follow : Follow} → Rule p written IsFit may_follow
     → ((x : A) → IsFit x → IsFit' x) → ((x : A) → IsFit' x → IsFit x) → Rule p written IsFit' may_follow
-refit_rule = ?
+refit_rule rule there back = record {
+    takes = λ i j x source e.
+        let t = rule.takes i j x source e in
+        (t.0, there x t.1);
+    again = λ i j x ws t end fit follows. rule.again i j x ws t end (back x fit) follows;
+  }
 
 -- less may follow
 pub follow_rule : {A : Type 0} {p : Reader A} {written : A → List Written} {IsFit : A → Type 0} {may_follow may_follow' : Follow} → Rule p written IsFit may_follow
     → ((ws : List Written) → may_follow' ws ≡ true → may_follow ws ≡ true) → Rule p written IsFit may_follow'
-follow_rule = ?
+follow_rule rule less = record {
+    takes = rule.takes;
+    again = λ i j x ws t end fit follows. rule.again i j x ws t end fit (less ws follows);
+  }
 
 -- one part after the other
 pub pair_rule : {A B : Type 0} {p : Reader A} {q : Reader B} {written_p : A → List Written} {written_q : B → List Written} {IsFit_p : A → Type 0} {IsFit_q : B → Type 0} {follow_p follow_q : Follow}
     → Rule p written_p IsFit_p follow_p → Rule q written_q IsFit_q follow_q
     → ((y : B) (ws : List Written) → IsFit_q y → follow_q ws ≡ true → follow_p (written_q y ++ ws) ≡ true)
     → Rule (p & q) (λ (z : A × B). written_p z.0 ++ written_q z.1) (λ (z : A × B). IsFit_p z.0 × IsFit_q z.1) follow_q
-pair_rule = ?
+pair_rule {A} {B} {p} {q} {written_p} {written_q} {IsFit_p} {IsFit_q} {follow_p} {follow_q} first second before = record {
+    takes = λ i j z source e.
+        let a = bind_ok (p i) (λ x. (λ y. (x, y)) <$> q) (z, j) e in
+        let b = bind_ok (q a.0.1) (λ y. pure (a.0.0, y)) (z, j) a.2 in
+        let made : (A × B) × Input = ((a.0.0, b.0.0), b.0.1) in
+        let t = first.takes i a.0.1 a.0.0 source a.1 in
+        let u = second.takes a.0.1 b.0.1 b.0.0 (takes_source (written_p a.0.0) i a.0.1 source t.0) b.1 in
+        subst (λ (y : (A × B) × Input). Takes i (written_p y.0.0 ++ written_q y.0.1) y.1 × (IsFit_p y.0.0 × IsFit_q y.0.1)) (ok_is made (z, j) b.2)
+        (takes_join (written_p a.0.0) (written_q b.0.0) i a.0.1 b.0.1 t.0 u.0, (t.1, u.1));
+    again = λ i j z ws t end fit follows.
+        let t' = subst (λ (vs : List Written). Takes i vs j) append_assoc t in
+        let r = first.again i j z.0 (written_q z.1 ++ ws) t' end fit.0 (before z.1 ws fit.1 follows) in
+        let s = second.again r.0 j z.1 ws r.2 end fit.1 follows in
+        (s.0, bind_step (p i) (λ x. (λ y. (x, y)) <$> q) (z.0, r.0) r.1 ∙ bind_step (q r.0) (λ y. pure (z.0, y)) (z.1, s.0) s.1, s.2);
+  }
 
 -- what the first two tokens of what is written say
 abbrev pub begins : (Form → Form → Bool) → List Written → Bool
