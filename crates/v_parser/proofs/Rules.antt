@@ -1,6 +1,7 @@
 -- What is read is written so, and what is written so is read: for readers, and for what is made of them.
-use Rattle.std.proofs.Common.{◌≡◌, ℕ, zero, suc, ◌+◌, ◌-◌, ◌<◌, ◌≤◌, ◌^◌, Bool, true, false, not, ◌&&◌, if◌then◌else◌, List, [], ◌∷◌, ◌++◌, length, Option, Some, None, Result, Ok, Err, ◌⊎◌, refl, sym, ap, subst, ◌∙◌, arith, inl, inr, append_assoc, append-nil, length-append}
+use Rattle.std.proofs.Common.{◌≡◌, ℕ, zero, suc, ◌+◌, ◌-◌, ◌==◌, ◌<◌, ◌≤◌, ◌^◌, Bool, true, false, not, ◌&&◌, if◌then◌else◌, List, [], ◌∷◌, ◌++◌, length, Option, Some, None, Result, Ok, Err, ◌⊎◌, refl, sym, ap, subst, ◌∙◌, arith, inl, inr, append_assoc, append-nil, length-append}
 use Rattle.std.specs.List.{AllByRecursion}
+use Rattle.std.proofs.lemmas.Bool.{and_parts, both_ways, not-true, eqb-true}
 use Rattle.v_lexer.specs.declared.token.Token.{Token}
 use Rattle.v_tree.specs.declared.places.Place.{Place}
 use Rattle.v_tree.specs.Written.{Form, form_of, Written, at, bare, IsKept, Stands, AreWritten, written_if_there, behind_commas, between_commas, one_by_one}
@@ -119,16 +120,75 @@ bind_step {A} r f x e = ap (λ (o : Outcome A). and_then o f) e
 
 -- ---- rules
 
+sound_in : (text : List ℕ) (tokens : List Token) → AllByRecursion (λ (t : Token). IsSoundForm (form_of text t)) tokens → IsSoundForm (front_in text tokens)
+sound_in text [] h = tt
+sound_in text (token ∷ tokens) h = h.0
+
+-- what the next token says is what a tree may keep
+front_sound : (i : Input) → IsSource i → IsSoundForm (front i)
+unfolding front
+front_sound i h = sound_in i.text i.tokens h.sound
+
+some_in : (text : List ℕ) (tokens : List Token) → (front_in text tokens ≡ form.Other → ⊥) → 0 < length tokens
+some_in text [] h = absurd (h refl)
+some_in text (token ∷ tokens) h = omega arith
+
+-- a token is left where what is next is something
+front_some : (i : Input) → (front i ≡ form.Other → ⊥) → 0 < length i.tokens
+unfolding front
+front_some i h = some_in i.text i.tokens h
+
+-- what is picked isn't picked at the end
+pick_some : {A : Type 0} (pick : Form → Option A) (x : A) (i : Input) → pick form.Other ≡ None → pick (front i) ≡ Some x → front i ≡ form.Other → ⊥
+pick_some pick x i none some other =
+    let same = ap pick other in
+    cc
+
+abbrev some_of : {A : Type 0} → A → Option A
+some_of x = Some x
+
+picks : {A : Type 0} (pick : Form → Option A) (i : Input) (x : A) → pick (front i) ≡ Some x → token pick i ≡ Ok ((x, place i), next i)
+picks {A} pick i x e = ap (λ (o : Option A). token_by o i) e
+
+-- a token that is read is picked, and the rest is what is left after it
+token_is : {A : Type 0} (o : Option A) (i : Input) (y : (A × Place) × Input) → token_by o i ≡ Ok y → (o ≡ Some y.0.0) × (y.0.1 ≡ place i) × (y.1 ≡ next i)
+token_is {A} (Some x) i y e =
+    let made : (A × Place) × Input = ((x, place i), next i) in
+    let same = ok_is made y e in
+    (ap (λ (z : (A × Place) × Input). some_of z.0.0) same, ap (λ (z : (A × Place) × Input). z.0.1) (sym same), ap (λ (z : (A × Place) × Input). z.1) (sym same))
+token_is None i y e = absurd cc
+
 pub token_rule : {A : Type 0} (pick : Form → Option A) (says : A → Form) (IsFit : A → Type 0) → pick form.Other ≡ None → ((f : Form) (x : A) → pick f ≡ Some x → f ≡ says x)
     → ((f : Form) (x : A) → IsSoundForm f → pick f ≡ Some x → IsFit x) → ((x : A) → IsFit x → pick (says x) ≡ Some x)
     → Rule (token pick) (λ (z : A × Place). at z.1 (says z.0) ∷ []) (λ (z : A × Place). IsFit z.0) anything
-token_rule = ?
+token_rule {A} pick says IsFit none is fits back = record {
+    takes = λ i j x source e.
+        let t = token_is (pick (front i)) i (x, j) e in
+        let there : 0 < length i.tokens = front_some i (pick_some pick x.0 i none t.0) in
+        let stands : StandsAt i (at x.1 (says x.0)) = record { some = there; form = is (front i) x.0 t.0; kept = t.1 } in
+        ((stands, sym t.2), fits (front i) x.0 (front_sound i source) t.0);
+    again = λ i j x ws t end fit follows.
+        let picked : pick (front i) ≡ Some x.0 = ap pick t.0.form ∙ back x.0 fit in
+        (next i, picks pick i x.0 picked ∙ ap (λ (at : Place). ok_of ((x.0, at), next i)) (sym t.0.kept), t.1);
+  }
 
 -- a token whose place isn't kept
 pub bare_rule : {A : Type 0} (pick : Form → Option A) (says : A → Form) (IsFit : A → Type 0) → pick form.Other ≡ None → ((f : Form) (x : A) → pick f ≡ Some x → f ≡ says x)
     → ((f : Form) (x : A) → IsSoundForm f → pick f ≡ Some x → IsFit x) → ((x : A) → IsFit x → pick (says x) ≡ Some x)
     → Rule ((λ (z : A × Place). z.0) <$> token pick) (λ (x : A). bare (says x) ∷ []) IsFit anything
-bare_rule = ?
+bare_rule {A} pick says IsFit none is fits back = record {
+    takes = λ i j x source e.
+        let a = bind_ok (token pick i) (λ (z : A × Place). pure z.0) (x, j) e in
+        let t = token_is (pick (front i)) i a.0 a.1 in
+        let there : 0 < length i.tokens = front_some i (pick_some pick a.0.0.0 i none t.0) in
+        let stands : StandsAt i (bare (says a.0.0.0)) = record { some = there; form = is (front i) a.0.0.0 t.0; kept = tt } in
+        let made : A × Input = (a.0.0.0, a.0.1) in
+        subst (λ (y : A × Input). Takes i (bare (says y.0) ∷ []) y.1 × IsFit y.0) (ok_is made (x, j) a.2)
+        ((stands, sym t.2), fits (front i) a.0.0.0 (front_sound i source) t.0);
+    again = λ i j x ws t end fit follows.
+        let picked : pick (front i) ≡ Some x = ap pick t.0.form ∙ back x fit in
+        (next i, bind_step (token pick i) (λ (z : A × Place). pure z.0) ((x, place i), next i) (picks pick i x picked), t.1);
+  }
 
 -- the same parts under another type
 pub map_rule : {A B : Type 0} {p : Reader A} {written : A → List Written} {IsFit : A → Type 0} {may_follow : Follow} → Rule p written IsFit may_follow
@@ -197,7 +257,7 @@ pair_rule {A} {B} {p} {q} {written_p} {written_q} {IsFit_p} {IsFit_q} {follow_p}
         subst (λ (y : (A × B) × Input). Takes i (written_p y.0.0 ++ written_q y.0.1) y.1 × (IsFit_p y.0.0 × IsFit_q y.0.1)) (ok_is made (z, j) b.2)
         (takes_join (written_p a.0.0) (written_q b.0.0) i a.0.1 b.0.1 t.0 u.0, (t.1, u.1));
     again = λ i j z ws t end fit follows.
-        let t' = subst (λ (vs : List Written). Takes i vs j) append_assoc t in
+        let t' = subst (λ (vs : List Written). Takes i vs j) (append_assoc (written_p z.0) (written_q z.1) ws) t in
         let r = first.again i j z.0 (written_q z.1 ++ ws) t' end fit.0 (before z.1 ws fit.1 follows) in
         let s = second.again r.0 j z.1 ws r.2 end fit.1 follows in
         (s.0, bind_step (p i) (λ x. (λ y. (x, y)) <$> q) (z.0, r.0) r.1 ∙ bind_step (q r.0) (λ y. pure (z.0, y)) (z.1, s.0) s.1, s.2);
@@ -211,7 +271,35 @@ begins sees ws = sees (first_form ws) (second_form ws)
 pub optional_rule : {A : Type 0} {p : Reader A} {written : A → List Written} {IsFit : A → Type 0} {may_follow : Follow} (sees : Form → Form → Bool) → Rule p written IsFit may_follow
     → ((x : A) (ws : List Written) → IsFit x → begins sees (written x ++ ws) ≡ true)
     → Rule (optional sees p) (written_if_there written) (IsFitIfThere IsFit) (λ ws. may_follow ws && not (begins sees ws))
-optional_rule = ?
+unfolding optional
+optional_rule {A} {p} {written} {IsFit} {may_follow} sees rule begun = record {
+    takes = λ i j o source e. read i j o source (sees (front i) (front (next i))) e;
+    again = λ i j o ws t end fit follows. reread i j o ws t end fit follows;
+  }
+  where
+    read : (i j : Input) (o : Option A) → IsSource i → (seen : Bool) → (if seen then (Some <$> p) i else Ok (None, i)) ≡ Ok (o, j) → Takes i (written_if_there written o) j × IsFitIfThere IsFit o
+    read i j o source true e =
+        let a = bind_ok (p i) (λ (x : A). pure (some_of x)) (o, j) e in
+        let made : Option A × Input = (some_of a.0.0, a.0.1) in
+        subst (λ (y : Option A × Input). Takes i (written_if_there written y.0) y.1 × IsFitIfThere IsFit y.0) (ok_is made (o, j) a.2)
+        (rule.takes i a.0.1 a.0.0 source a.1)
+    read i j o source false e =
+        let made : Option A × Input = (None, i) in
+        subst (λ (y : Option A × Input). Takes i (written_if_there written y.0) y.1 × IsFitIfThere IsFit y.0) (ok_is made (o, j) e)
+        (refl, tt)
+    seen_as : (i j : Input) (ws : List Written) → Takes i ws j → IsEnd j → sees (front i) (front (next i)) ≡ begins sees ws
+    seen_as i j ws t end = ap (λ (f : Form). sees f (front (next i))) (takes_front ws i j t end) ∙ ap (λ (f : Form). sees (first_form ws) f) (takes_second ws i j t end)
+    reread : (i j : Input) (o : Option A) (ws : List Written) → Takes i (written_if_there written o ++ ws) j → IsEnd j → IsFitIfThere IsFit o → (may_follow ws && not (begins sees ws)) ≡ true
+        → (m : Input) × ((if sees (front i) (front (next i)) then (Some <$> p) i else Ok (None, i)) ≡ Ok (o, m)) × Takes m ws j
+    reread i j None ws t end fit follows =
+        let parts = and_parts (may_follow ws) (not (begins sees ws)) follows in
+        let seen : sees (front i) (front (next i)) ≡ false = seen_as i j ws t end ∙ not-true (begins sees ws) parts.1 in
+        (i, ap (λ (b : Bool). if b then (Some <$> p) i else Ok (None, i)) seen, t)
+    reread i j (Some x) ws t end fit follows =
+        let parts = and_parts (may_follow ws) (not (begins sees ws)) follows in
+        let seen : sees (front i) (front (next i)) ≡ true = seen_as i j (written x ++ ws) t end ∙ begun x ws fit in
+        let r = rule.again i j x ws t end fit parts.0 in
+        (r.0, ap (λ (b : Bool). if b then (Some <$> p) i else Ok (None, i)) seen ∙ bind_step (p i) (λ (x : A). pure (some_of x)) (x, r.0) r.1, r.2)
 
 -- one of two, by the first two tokens
 pub choice_rule : {A : Type 0} {p q : Reader A} {written : A → List Written} {IsFit_p IsFit_q : A → Type 0} {follow_p follow_q : Follow} (sees : Form → Form → Bool)
@@ -219,7 +307,31 @@ pub choice_rule : {A : Type 0} {p q : Reader A} {written : A → List Written} {
     → ((x : A) (ws : List Written) → IsFit_p x → follow_p ws ≡ true → begins sees (written x ++ ws) ≡ true)
     → ((x : A) (ws : List Written) → IsFit_q x → follow_q ws ≡ true → begins sees (written x ++ ws) ≡ false)
     → Rule (choice sees p q) written (λ x. IsFit_p x ⊎ IsFit_q x) (λ ws. follow_p ws && follow_q ws)
-choice_rule = ?
+unfolding choice
+choice_rule {A} {p} {q} {written} {IsFit_p} {IsFit_q} {follow_p} {follow_q} sees first second begun not_begun = record {
+    takes = λ i j x source e. read i j x source (sees (front i) (front (next i))) e;
+    again = λ i j x ws t end fit follows. reread i j x ws t end (and_parts (follow_p ws) (follow_q ws) follows) fit;
+  }
+  where
+    read : (i j : Input) (x : A) → IsSource i → (seen : Bool) → (if seen then p i else q i) ≡ Ok (x, j) → Takes i (written x) j × (IsFit_p x ⊎ IsFit_q x)
+    read i j x source true e =
+        let t = first.takes i j x source e in
+        (t.0, inl t.1)
+    read i j x source false e =
+        let t = second.takes i j x source e in
+        (t.0, inr t.1)
+    seen_as : (i j : Input) (ws : List Written) → Takes i ws j → IsEnd j → sees (front i) (front (next i)) ≡ begins sees ws
+    seen_as i j ws t end = ap (λ (f : Form). sees f (front (next i))) (takes_front ws i j t end) ∙ ap (λ (f : Form). sees (first_form ws) f) (takes_second ws i j t end)
+    reread : (i j : Input) (x : A) (ws : List Written) → Takes i (written x ++ ws) j → IsEnd j → (follow_p ws ≡ true) × (follow_q ws ≡ true) → IsFit_p x ⊎ IsFit_q x
+        → (m : Input) × ((if sees (front i) (front (next i)) then p i else q i) ≡ Ok (x, m)) × Takes m ws j
+    reread i j x ws t end follows (inl fit) =
+        let seen : sees (front i) (front (next i)) ≡ true = seen_as i j (written x ++ ws) t end ∙ begun x ws fit follows.0 in
+        let r = first.again i j x ws t end fit follows.0 in
+        (r.0, ap (λ (b : Bool). if b then p i else q i) seen ∙ r.1, r.2)
+    reread i j x ws t end follows (inr fit) =
+        let seen : sees (front i) (front (next i)) ≡ false = seen_as i j (written x ++ ws) t end ∙ not_begun x ws fit follows.1 in
+        let r = second.again i j x ws t end fit follows.1 in
+        (r.0, ap (λ (b : Bool). if b then p i else q i) seen ∙ r.1, r.2)
 
 -- no comma is next
 abbrev pub no_comma : Follow
@@ -252,8 +364,21 @@ whole text tokens = record { text = text; tokens = tokens; number = 0 }
 -- all tokens are taken where they are what is written, one by one
 pub written_takes : (text : List ℕ) (number : ℕ) (tokens : List Token) (ws : List Written) → AreWritten text number tokens ws
     → (j : Input) × IsEnd j × Takes (record { text = text; tokens = tokens; number = number }) ws j
-written_takes = ?
+unfolding front place next
+written_takes text number [] [] h = (record { text = text; tokens = []; number = number }, refl, refl)
+written_takes text number [] (w ∷ ws) h = absurd h
+written_takes text number (token ∷ tokens) [] h = absurd h
+written_takes text number (token ∷ tokens) (w ∷ ws) h =
+    let r = written_takes text (number + 1) tokens ws h.1 in
+    (r.0, r.1, (record { some = omega arith; form = h.0.form; kept = h.0.place }, r.2))
 
 pub takes_written : (text : List ℕ) (number : ℕ) (tokens : List Token) (ws : List Written) (j : Input) → IsEnd j → Takes (record { text = text; tokens = tokens; number = number }) ws j
     → AreWritten text number tokens ws
-takes_written = ?
+unfolding front place next
+takes_written text number [] [] j end t = tt
+takes_written text number [] (w ∷ ws) j end t = absurd (omega (arith, t.0.some))
+takes_written text number (token ∷ tokens) [] j end t =
+    let none : length (token ∷ tokens) ≡ length j.tokens = ap (λ (k : Input). length k.tokens) t in
+    let ended : length j.tokens ≡ 0 = ap (λ (ts : List Token). length ts) end in
+    absurd (omega arith)
+takes_written text number (token ∷ tokens) (w ∷ ws) j end t = (record { form = t.0.form; place = t.0.kept }, takes_written text (number + 1) tokens ws j end t.1)
