@@ -337,23 +337,172 @@ choice_rule {A} {p} {q} {written} {IsFit_p} {IsFit_q} {follow_p} {follow_q} sees
 abbrev pub no_comma : Follow
 no_comma ws = not (is_mark 44 (first_form ws))
 
+-- a comma that is seen is what is next
+comma_is : (f : Form) → is_mark 44 f ≡ true → f ≡ form.Mark 44
+comma_is (form.Mark b) e = ap form.Mark (eqb-true b 44 e)
+comma_is f e = absurd cc
+
+-- a comma that is seen stands there
+comma_stands : (i : Input) → is_mark 44 (front i) ≡ true → StandsAt i (bare (form.Mark 44))
+comma_stands i e =
+    let is = comma_is (front i) e in
+    let some : front i ≡ form.Other → ⊥ = λ (other : front i ≡ form.Other). cc in
+    record { some = front_some i some; form = is; kept = tt }
+
+commas_found : {A : Type 0} {p : Reader A} {written : A → List Written} {IsFit : A → Type 0} {may_follow : Follow} → Rule p written IsFit may_follow
+    → (n : ℕ) (found : List A) (i j : Input) (xs : List A) → IsSource i → commas_from p n found i ≡ Ok (xs, j)
+    → (more : List A) × (xs ≡ found ++ more) × Takes i (behind_commas written more) j × AllByRecursion IsFit more
+unfolding commas_from
+commas_found {A} {p} {written} {IsFit} {may_follow} rule zero found i j xs source e =
+    let made : List A × Input = (found, i) in
+    let same = ok_is made (xs, j) e in
+    ([], ap (λ (y : List A × Input). y.0) (sym same) ∙ sym (append-nil found), ap (λ (y : List A × Input). y.1) same, tt)
+commas_found {A} {p} {written} {IsFit} {may_follow} rule (suc n) found i j xs source e = by (commas_found rule n) (is_mark 44 (front i)) refl e
+  where
+    by : ((found : List A) (i j : Input) (xs : List A) → IsSource i → commas_from p n found i ≡ Ok (xs, j) → (more : List A) × (xs ≡ found ++ more) × Takes i (behind_commas written more) j × AllByRecursion IsFit more)
+        → (seen : Bool) → is_mark 44 (front i) ≡ seen → (if seen then (p >>= λ x. commas_from p n (found ++ x ∷ [])) (next i) else Ok (found, i)) ≡ Ok (xs, j)
+        → (more : List A) × (xs ≡ found ++ more) × Takes i (behind_commas written more) j × AllByRecursion IsFit more
+    by others true is f =
+        let a = bind_ok (p (next i)) (λ x. commas_from p n (found ++ x ∷ [])) (xs, j) f in
+        let t = rule.takes (next i) a.0.1 a.0.0 (next_source i source) a.1 in
+        let r = others (found ++ a.0.0 ∷ []) a.0.1 j xs (takes_source (written a.0.0) (next i) a.0.1 (next_source i source) t.0) a.2 in
+        (a.0.0 ∷ r.0, r.1 ∙ append_assoc found (a.0.0 ∷ []) r.0, (comma_stands i is, takes_join (written a.0.0) (behind_commas written r.0) (next i) a.0.1 j t.0 r.2), (t.1, r.3))
+    by others false is f =
+        let made : List A × Input = (found, i) in
+        let same = ok_is made (xs, j) f in
+        ([], ap (λ (y : List A × Input). y.0) (sym same) ∙ sym (append-nil found), ap (λ (y : List A × Input). y.1) same, tt)
+
+-- behind a part another comma may follow, or what may follow in the end
+rest_follows : {A : Type 0} (written : A → List Written) (may_follow : Follow) → ((ws : List Written) → may_follow (bare (form.Mark 44) ∷ ws) ≡ true)
+    → (more : List A) (ws : List Written) → may_follow ws ≡ true → may_follow (behind_commas written more ++ ws) ≡ true
+rest_follows written may_follow comma [] ws follows = follows
+rest_follows written may_follow comma (x ∷ more) ws follows = comma ((written x ++ behind_commas written more) ++ ws)
+
+commas_again : {A : Type 0} {p : Reader A} {written : A → List Written} {IsFit : A → Type 0} {may_follow : Follow} → Rule p written IsFit may_follow
+    → ((ws : List Written) → may_follow (bare (form.Mark 44) ∷ ws) ≡ true)
+    → (n : ℕ) (found more : List A) (i j : Input) (ws : List Written) → length more ≤ n → Takes i (behind_commas written more ++ ws) j → IsEnd j → AllByRecursion IsFit more
+    → may_follow ws ≡ true → no_comma ws ≡ true → (m : Input) × (commas_from p n found i ≡ Ok (found ++ more, m)) × Takes m ws j
+unfolding commas_from
+commas_again rule comma zero found [] i j ws le t end fit follows none = (i, ap (λ xs. ok_of (xs, i)) (sym (append-nil found)), t)
+commas_again rule comma zero found (x ∷ more) i j ws le t end fit follows none = absurd (omega arith)
+commas_again {A} {p} {written} {IsFit} {may_follow} rule comma (suc n) found [] i j ws le t end fit follows none =
+    let seen : is_mark 44 (front i) ≡ false = ap (is_mark 44) (takes_front ws i j t end) ∙ not-true (is_mark 44 (first_form ws)) none in
+    (i, ap (λ (b : Bool). if b then (p >>= λ x. commas_from p n (found ++ x ∷ [])) (next i) else Ok (found, i)) seen ∙ ap (λ (xs : List A). ok_of (xs, i)) (sym (append-nil found)), t)
+commas_again {A} {p} {written} {IsFit} {may_follow} rule comma (suc n) found (x ∷ more) i j ws le t end fit follows none =
+    let seen : is_mark 44 (front i) ≡ true = ap (is_mark 44) t.0.form in
+    let t' = subst (λ (vs : List Written). Takes (next i) vs j) (append_assoc (written x) (behind_commas written more) ws) t.1 in
+    let r = rule.again (next i) j x (behind_commas written more ++ ws) t' end fit.0 (rest_follows written may_follow comma more ws follows) in
+    let s = commas_again rule comma n (found ++ x ∷ []) more r.0 j ws (omega arith) r.2 end fit.1 follows none in
+    (s.0, ap (λ (b : Bool). if b then (p >>= λ y. commas_from p n (found ++ y ∷ [])) (next i) else Ok (found, i)) seen
+        ∙ bind_step (p (next i)) (λ y. commas_from p n (found ++ y ∷ [])) (x, r.0) r.1 ∙ s.1 ∙ ap (λ (xs : List A). ok_of (xs, s.0)) (append_assoc found (x ∷ []) more), s.2)
+
+-- each part has a comma before it
+commas_length : {A : Type 0} (written : A → List Written) (xs : List A) → length xs ≤ length (behind_commas written xs)
+commas_length written [] = omega arith
+commas_length written (x ∷ xs) = omega (arith, commas_length written xs, length-append (written x) (behind_commas written xs))
+
 -- parts behind commas
 pub commas_rule : {A : Type 0} {p : Reader A} {written : A → List Written} {IsFit : A → Type 0} {may_follow : Follow} → Rule p written IsFit may_follow
     → ((ws : List Written) → may_follow (bare (form.Mark 44) ∷ ws) ≡ true)
     → Rule (commas p []) (behind_commas written) (AreFit IsFit) (λ ws. may_follow ws && no_comma ws)
-commas_rule = ?
+unfolding commas
+commas_rule {A} {p} {written} {IsFit} {may_follow} rule comma = record {
+    takes = λ i j xs source e.
+        let r = commas_found rule (length i.tokens) [] i j xs source e in
+        let few : length r.0 < 2 ^ 32 = omega (arith, source.few, takes_length (behind_commas written r.0) i j r.2, commas_length written r.0) in
+        subst (λ (ys : List A). Takes i (behind_commas written ys) j × AreFit IsFit ys) (sym r.1) (r.2, record { few = few; each = r.3 });
+    again = λ i j xs ws t end fit follows.
+        let parts = and_parts (may_follow ws) (no_comma ws) follows in
+        let le : length xs ≤ length i.tokens = omega (arith, takes_length (behind_commas written xs ++ ws) i j t, length-append (behind_commas written xs) ws, commas_length written xs) in
+        commas_again rule comma (length i.tokens) [] xs i j ws le t end fit.each parts.0 parts.1;
+  }
 
 -- one part or several, with commas between
 pub separated_rule : {A : Type 0} {p : Reader A} {written : A → List Written} {IsFit : A → Type 0} {may_follow : Follow} → Rule p written IsFit may_follow
     → ((x : A) → IsFit x → 0 < length (written x)) → ((ws : List Written) → may_follow (bare (form.Mark 44) ∷ ws) ≡ true)
     → Rule (separated p) (between_commas written) (AreSome IsFit) (λ ws. may_follow ws && no_comma ws)
-separated_rule = ?
+unfolding separated commas
+separated_rule {A} {p} {written} {IsFit} {may_follow} rule some comma = record {
+    takes = λ i j xs source e.
+        let a = bind_ok (p i) (λ x. commas p (x ∷ [])) (xs, j) e in
+        let t = rule.takes i a.0.1 a.0.0 source a.1 in
+        let r = commas_found rule (length a.0.1.tokens) (a.0.0 ∷ []) a.0.1 j xs (takes_source (written a.0.0) i a.0.1 source t.0) a.2 in
+        let few : length (a.0.0 ∷ r.0) < 2 ^ 32 = omega (arith, source.few, some a.0.0 t.1, takes_length (written a.0.0) i a.0.1 t.0, takes_length (behind_commas written r.0) a.0.1 j r.2, commas_length written r.0) in
+        subst (λ (ys : List A). Takes i (between_commas written ys) j × AreSome IsFit ys) (sym r.1)
+        (takes_join (written a.0.0) (behind_commas written r.0) i a.0.1 j t.0 r.2, record { some = omega arith; fit = record { few = few; each = (t.1, r.3) } });
+    again = λ i j xs ws t end fit follows. reread i j xs ws t end fit.some fit.fit.each (and_parts (may_follow ws) (no_comma ws) follows);
+  }
+  where
+    reread : (i j : Input) (xs : List A) (ws : List Written) → Takes i (between_commas written xs ++ ws) j → IsEnd j → 0 < length xs → AllByRecursion IsFit xs → (may_follow ws ≡ true) × (no_comma ws ≡ true)
+        → (m : Input) × (separated p i ≡ Ok (xs, m)) × Takes m ws j
+    reread i j [] ws t end there fit follows = absurd (omega arith)
+    reread i j (x ∷ xs) ws t end there fit follows =
+        let t' = subst (λ (vs : List Written). Takes i vs j) (append_assoc (written x) (behind_commas written xs) ws) t in
+        let r = rule.again i j x (behind_commas written xs ++ ws) t' end fit.0 (rest_follows written may_follow comma xs ws follows.0) in
+        let le : length xs ≤ length r.0.tokens = omega (arith, takes_length (behind_commas written xs ++ ws) r.0 j r.2, length-append (behind_commas written xs) ws, commas_length written xs) in
+        let s = commas_again rule comma (length r.0.tokens) (x ∷ []) xs r.0 j ws le r.2 end fit.1 follows.0 follows.1 in
+        (s.0, bind_step (p i) (λ y. commas p (y ∷ [])) (x, r.0) r.1 ∙ s.1, s.2)
+
+many_found : {A : Type 0} {p : Reader A} {written : A → List Written} {IsFit : A → Type 0} (stops : Form → Bool) → Rule p written IsFit anything
+    → (n : ℕ) (found : List A) (i j : Input) (xs : List A) → IsSource i → many_from stops p n found i ≡ Ok (xs, j)
+    → (more : List A) × (xs ≡ found ++ more) × Takes i (one_by_one written more) j × AllByRecursion IsFit more
+unfolding many_from
+many_found {A} {p} {written} {IsFit} stops rule zero found i j xs source e =
+    let made : List A × Input = (found, i) in
+    let same = ok_is made (xs, j) e in
+    ([], ap (λ (y : List A × Input). y.0) (sym same) ∙ sym (append-nil found), ap (λ (y : List A × Input). y.1) same, tt)
+many_found {A} {p} {written} {IsFit} stops rule (suc n) found i j xs source e = by (many_found stops rule n) (stops (front i)) e
+  where
+    by : ((found : List A) (i j : Input) (xs : List A) → IsSource i → many_from stops p n found i ≡ Ok (xs, j) → (more : List A) × (xs ≡ found ++ more) × Takes i (one_by_one written more) j × AllByRecursion IsFit more)
+        → (ended : Bool) → (if ended then Ok (found, i) else (p >>= λ x. many_from stops p n (found ++ x ∷ [])) i) ≡ Ok (xs, j)
+        → (more : List A) × (xs ≡ found ++ more) × Takes i (one_by_one written more) j × AllByRecursion IsFit more
+    by others true f =
+        let made : List A × Input = (found, i) in
+        let same = ok_is made (xs, j) f in
+        ([], ap (λ (y : List A × Input). y.0) (sym same) ∙ sym (append-nil found), ap (λ (y : List A × Input). y.1) same, tt)
+    by others false f =
+        let a = bind_ok (p i) (λ x. many_from stops p n (found ++ x ∷ [])) (xs, j) f in
+        let t = rule.takes i a.0.1 a.0.0 source a.1 in
+        let r = others (found ++ a.0.0 ∷ []) a.0.1 j xs (takes_source (written a.0.0) i a.0.1 source t.0) a.2 in
+        (a.0.0 ∷ r.0, r.1 ∙ append_assoc found (a.0.0 ∷ []) r.0, takes_join (written a.0.0) (one_by_one written r.0) i a.0.1 j t.0 r.2, (t.1, r.3))
+
+many_again : {A : Type 0} {p : Reader A} {written : A → List Written} {IsFit : A → Type 0} (stops : Form → Bool) → Rule p written IsFit anything
+    → ((x : A) (ws : List Written) → IsFit x → stops (first_form (written x ++ ws)) ≡ false)
+    → (n : ℕ) (found more : List A) (i j : Input) (ws : List Written) → length more ≤ n → Takes i (one_by_one written more ++ ws) j → IsEnd j → AllByRecursion IsFit more
+    → stops (first_form ws) ≡ true → (m : Input) × (many_from stops p n found i ≡ Ok (found ++ more, m)) × Takes m ws j
+unfolding many_from
+many_again stops rule begun zero found [] i j ws le t end fit ended = (i, ap (λ xs. ok_of (xs, i)) (sym (append-nil found)), t)
+many_again stops rule begun zero found (x ∷ more) i j ws le t end fit ended = absurd (omega arith)
+many_again {A} {p} {written} {IsFit} stops rule begun (suc n) found [] i j ws le t end fit ended =
+    let seen : stops (front i) ≡ true = ap stops (takes_front ws i j t end) ∙ ended in
+    (i, ap (λ (b : Bool). if b then Ok (found, i) else (p >>= λ x. many_from stops p n (found ++ x ∷ [])) i) seen ∙ ap (λ (xs : List A). ok_of (xs, i)) (sym (append-nil found)), t)
+many_again {A} {p} {written} {IsFit} stops rule begun (suc n) found (x ∷ more) i j ws le t end fit ended =
+    let t' = subst (λ (vs : List Written). Takes i vs j) (append_assoc (written x) (one_by_one written more) ws) t in
+    let seen : stops (front i) ≡ false = ap stops (takes_front (written x ++ (one_by_one written more ++ ws)) i j t' end) ∙ begun x (one_by_one written more ++ ws) fit.0 in
+    let r = rule.again i j x (one_by_one written more ++ ws) t' end fit.0 refl in
+    let s = many_again stops rule begun n (found ++ x ∷ []) more r.0 j ws (omega arith) r.2 end fit.1 ended in
+    (s.0, ap (λ (b : Bool). if b then Ok (found, i) else (p >>= λ y. many_from stops p n (found ++ y ∷ [])) i) seen
+        ∙ bind_step (p i) (λ y. many_from stops p n (found ++ y ∷ [])) (x, r.0) r.1 ∙ s.1 ∙ ap (λ (xs : List A). ok_of (xs, s.0)) (append_assoc found (x ∷ []) more), s.2)
+
+-- each part has a token
+many_length : {A : Type 0} (written : A → List Written) (IsFit : A → Type 0) → ((x : A) → IsFit x → 0 < length (written x)) → (xs : List A) → AllByRecursion IsFit xs → length xs ≤ length (one_by_one written xs)
+many_length written IsFit some [] fit = omega arith
+many_length written IsFit some (x ∷ xs) fit = omega (arith, some x fit.0, many_length written IsFit some xs fit.1, length-append (written x) (one_by_one written xs))
 
 -- parts up to a token that ends them
 pub many_rule : {A : Type 0} {p : Reader A} {written : A → List Written} {IsFit : A → Type 0} (stops : Form → Bool) → Rule p written IsFit anything
     → ((x : A) → IsFit x → 0 < length (written x)) → ((x : A) (ws : List Written) → IsFit x → stops (first_form (written x ++ ws)) ≡ false)
     → Rule (many stops p) (one_by_one written) (AreFit IsFit) (λ ws. stops (first_form ws))
-many_rule = ?
+unfolding many
+many_rule {A} {p} {written} {IsFit} stops rule some begun = record {
+    takes = λ i j xs source e.
+        let r = many_found stops rule (length i.tokens) [] i j xs source e in
+        let few : length r.0 < 2 ^ 32 = omega (arith, source.few, takes_length (one_by_one written r.0) i j r.2, many_length written IsFit some r.0 r.3) in
+        subst (λ (ys : List A). Takes i (one_by_one written ys) j × AreFit IsFit ys) (sym r.1) (r.2, record { few = few; each = r.3 });
+    again = λ i j xs ws t end fit follows.
+        let le : length xs ≤ length i.tokens = omega (arith, takes_length (one_by_one written xs ++ ws) i j t, length-append (one_by_one written xs) ws, many_length written IsFit some xs fit.each) in
+        many_again stops rule begun (length i.tokens) [] xs i j ws le t end fit.each follows;
+  }
 
 -- ---- the whole list
 
