@@ -1,14 +1,13 @@
 -- What is read is written so, and what is written so is read: for readers, and for what is made of them.
-use Rattle.std.proofs.Common.{◌≡◌, ℕ, zero, suc, ◌+◌, ◌-◌, ◌==◌, ◌<◌, ◌≤◌, ◌^◌, Bool, true, false, not, ◌&&◌, if◌then◌else◌, List, [], ◌∷◌, ◌++◌, length, Option, Some, None, Result, Ok, Err, ◌⊎◌, refl, sym, ap, subst, ◌∙◌, arith, inl, inr, append_assoc, append-nil, length-append}
+use Rattle.std.proofs.Common.{◌≡◌, ℕ, zero, suc, ◌+◌, ◌-◌, ◌<◌, ◌≤◌, ◌^◌, Bool, true, false, not, ◌&&◌, if◌then◌else◌, List, [], ◌∷◌, ◌++◌, length, Option, Some, None, Ok, Err, ◌⊎◌, refl, sym, ap, subst, ◌∙◌, arith, inl, inr, append_assoc, append-nil, length-append}
 use Rattle.std.specs.List.{AllByRecursion}
-use Rattle.std.proofs.lemmas.Bool.{and_parts, both_ways, not-true, eqb-true}
+use Rattle.std.proofs.lemmas.Bool.{and_parts, not-true, eqb-true}
 use Rattle.v_lexer.specs.declared.token.Token.{Token}
 use Rattle.v_tree.specs.declared.places.Place.{Place}
-use Rattle.v_tree.specs.Written.{Form, form_of, Written, at, bare, IsKept, Stands, AreWritten, written_if_there, behind_commas, between_commas, one_by_one}
+use Rattle.v_tree.specs.Written.{Form, form_of, Written, at, bare, IsKept, AreWritten, written_if_there, behind_commas, between_commas, one_by_one}
 use Rattle.v_tree.specs.Written as form
 use Rattle.v_tree.specs.Fit.{IsSoundForm, AreFit, AreSome, IsFitIfThere}
-use Rattle.v_parser.specs.declared.fault.ParseFault.{ParseFault}
-use Rattle.v_parser.specs.Input.{Input, Outcome, Reader, front_in, front, place, next_in, next, refusal, and_then, ◌>>=◌, pure, ◌<$>◌, ◌&◌, refuse, token_by, token, is_mark, optional, choice, commas_from, commas, separated, many_from, many}
+use Rattle.v_parser.specs.Input.{Input, Outcome, Reader, front_in, front, place, next_in, next, and_then, ◌>>=◌, pure, ◌<$>◌, ◌&◌, token_by, token, is_mark, optional, choice, commas_from, commas, separated, many_from, many}
 
 -- the next token is what is written
 pub record StandsAt (i : Input) (w : Written) : Type 0 where
@@ -52,19 +51,22 @@ pub record Rule {A : Type 0} (read : Reader A) (written : A → List Written) (I
 
 -- ---- what Takes says
 
+-- one part taken after the other is both taken
 pub takes_join : (a b : List Written) (i m j : Input) → Takes i a m → Takes m b j → Takes i (a ++ b) j
 takes_join [] b i m j h k = subst (λ (n : Input). Takes n b j) (sym h) k
 takes_join (w ∷ a) b i m j h k = (h.0, takes_join a b (next i) m j h.1 k)
 
--- one token fewer is left after the next one
+-- one token fewer is left after the first of tokens
 next_length : (text : List ℕ) (number : ℕ) (tokens : List Token) → 0 < length tokens → suc (length (next_in text number tokens).tokens) ≡ length tokens
 next_length text number [] h = absurd (omega arith)
 next_length text number (token ∷ tokens) h = refl
 
+-- one token fewer is left after the next one
 next_shorter : (i : Input) → 0 < length i.tokens → suc (length (next i).tokens) ≡ length i.tokens
 unfolding next
 next_shorter i h = next_length i.text i.number i.tokens h
 
+-- what is left of tokens after the first is as sound
 next_sound : (text : List ℕ) (number : ℕ) (tokens : List Token) → length tokens < 2 ^ 32 → AllByRecursion (λ (t : Token). IsSoundForm (form_of text t)) tokens → IsSource (next_in text number tokens)
 next_sound text number [] few sound = record { few = few; sound = sound }
 next_sound text number (token ∷ tokens) few sound = record { few = omega arith; sound = sound.1 }
@@ -79,6 +81,7 @@ end_front : (i : Input) → IsEnd i → front i ≡ form.Other
 unfolding front
 end_front i h = ap (front_in i.text) h
 
+-- at the end nothing is left after the next token
 end_next : (i : Input) → IsEnd i → IsEnd (next i)
 unfolding next
 end_next i h = ap (λ (tokens : List Token). (next_in i.text i.number tokens).tokens) h
@@ -88,14 +91,17 @@ pub takes_length : (ws : List Written) (i j : Input) → Takes i ws j → length
 takes_length [] i j h = omega (arith, ap (λ (k : Input). length k.tokens) h)
 takes_length (w ∷ ws) i j h = omega (arith, takes_length ws (next i) j h.1, next_shorter i h.0.some)
 
+-- what is left is as sound as the whole
 pub takes_source : (ws : List Written) (i j : Input) → IsSource i → Takes i ws j → IsSource j
 takes_source [] i j h t = subst IsSource t h
 takes_source (w ∷ ws) i j h t = takes_source ws (next i) j (next_source i h) t.1
 
+-- what is next is what is written first
 pub takes_front : (ws : List Written) (i j : Input) → Takes i ws j → IsEnd j → front i ≡ first_form ws
 takes_front [] i j h end = end_front i (ap (λ (k : Input). k.tokens) h ∙ end)
 takes_front (w ∷ ws) i j h end = h.0.form
 
+-- what is next but one is what is written second
 pub takes_second : (ws : List Written) (i j : Input) → Takes i ws j → IsEnd j → front (next i) ≡ second_form ws
 takes_second [] i j h end = end_front (next i) (end_next i (ap (λ (k : Input). k.tokens) h ∙ end))
 takes_second (w ∷ ws) i j h end = takes_front ws (next i) j h.1 end
@@ -120,6 +126,7 @@ bind_step {A} r f x e = ap (λ (o : Outcome A). and_then o f) e
 
 -- ---- rules
 
+-- what the first of tokens says is what a tree may keep
 sound_in : (text : List ℕ) (tokens : List Token) → AllByRecursion (λ (t : Token). IsSoundForm (form_of text t)) tokens → IsSoundForm (front_in text tokens)
 sound_in text [] h = tt
 sound_in text (token ∷ tokens) h = h.0
@@ -129,6 +136,7 @@ front_sound : (i : Input) → IsSource i → IsSoundForm (front i)
 unfolding front
 front_sound i h = sound_in i.text i.tokens h.sound
 
+-- tokens are there where the first of them says something
 some_in : (text : List ℕ) (tokens : List Token) → (front_in text tokens ≡ form.Other → ⊥) → 0 < length tokens
 some_in text [] h = absurd (h refl)
 some_in text (token ∷ tokens) h = omega arith
@@ -147,6 +155,7 @@ pick_some pick x i none some other =
 abbrev some_of : {A : Type 0} → A → Option A
 some_of x = Some x
 
+-- a token that is picked is read
 picks : {A : Type 0} (pick : Form → Option A) (i : Input) (x : A) → pick (front i) ≡ Some x → token pick i ≡ Ok ((x, place i), next i)
 picks {A} pick i x e = ap (λ (o : Option A). token_by o i) e
 
@@ -158,6 +167,7 @@ token_is {A} (Some x) i y e =
     (ap (λ (z : (A × Place) × Input). some_of z.0.0) same, ap (λ (z : (A × Place) × Input). z.0.1) (sym same), ap (λ (z : (A × Place) × Input). z.1) (sym same))
 token_is None i y e = absurd cc
 
+-- a token whose place is kept
 pub token_rule : {A : Type 0} (pick : Form → Option A) (says : A → Form) (IsFit : A → Type 0) → pick form.Other ≡ None → ((f : Form) (x : A) → pick f ≡ Some x → f ≡ says x)
     → ((f : Form) (x : A) → IsSoundForm f → pick f ≡ Some x → IsFit x) → ((x : A) → IsFit x → pick (says x) ≡ Some x)
     → Rule (token pick) (λ (z : A × Place). at z.1 (says z.0) ∷ []) (λ (z : A × Place). IsFit z.0) anything
@@ -267,6 +277,10 @@ pair_rule {A} {B} {p} {q} {written_p} {written_q} {IsFit_p} {IsFit_q} {follow_p}
 abbrev pub begins : (Form → Form → Bool) → List Written → Bool
 begins sees ws = sees (first_form ws) (second_form ws)
 
+-- what is seen next is how what is written begins
+seen_as : (sees : Form → Form → Bool) (i j : Input) (ws : List Written) → Takes i ws j → IsEnd j → sees (front i) (front (next i)) ≡ begins sees ws
+seen_as sees i j ws t end = ap (λ (f : Form). sees f (front (next i))) (takes_front ws i j t end) ∙ ap (λ (f : Form). sees (first_form ws) f) (takes_second ws i j t end)
+
 -- a part that is there where the first two tokens say so
 pub optional_rule : {A : Type 0} {p : Reader A} {written : A → List Written} {IsFit : A → Type 0} {may_follow : Follow} (sees : Form → Form → Bool) → Rule p written IsFit may_follow
     → ((x : A) (ws : List Written) → IsFit x → begins sees (written x ++ ws) ≡ true)
@@ -287,17 +301,15 @@ optional_rule {A} {p} {written} {IsFit} {may_follow} sees rule begun = record {
         let made : Option A × Input = (None, i) in
         subst (λ (y : Option A × Input). Takes i (written_if_there written y.0) y.1 × IsFitIfThere IsFit y.0) (ok_is made (o, j) e)
         (refl, tt)
-    seen_as : (i j : Input) (ws : List Written) → Takes i ws j → IsEnd j → sees (front i) (front (next i)) ≡ begins sees ws
-    seen_as i j ws t end = ap (λ (f : Form). sees f (front (next i))) (takes_front ws i j t end) ∙ ap (λ (f : Form). sees (first_form ws) f) (takes_second ws i j t end)
     reread : (i j : Input) (o : Option A) (ws : List Written) → Takes i (written_if_there written o ++ ws) j → IsEnd j → IsFitIfThere IsFit o → (may_follow ws && not (begins sees ws)) ≡ true
         → (m : Input) × ((if sees (front i) (front (next i)) then (Some <$> p) i else Ok (None, i)) ≡ Ok (o, m)) × Takes m ws j
     reread i j None ws t end fit follows =
         let parts = and_parts (may_follow ws) (not (begins sees ws)) follows in
-        let seen : sees (front i) (front (next i)) ≡ false = seen_as i j ws t end ∙ not-true (begins sees ws) parts.1 in
+        let seen : sees (front i) (front (next i)) ≡ false = seen_as sees i j ws t end ∙ not-true (begins sees ws) parts.1 in
         (i, ap (λ (b : Bool). if b then (Some <$> p) i else Ok (None, i)) seen, t)
     reread i j (Some x) ws t end fit follows =
         let parts = and_parts (may_follow ws) (not (begins sees ws)) follows in
-        let seen : sees (front i) (front (next i)) ≡ true = seen_as i j (written x ++ ws) t end ∙ begun x ws fit in
+        let seen : sees (front i) (front (next i)) ≡ true = seen_as sees i j (written x ++ ws) t end ∙ begun x ws fit in
         let r = rule.again i j x ws t end fit parts.0 in
         (r.0, ap (λ (b : Bool). if b then (Some <$> p) i else Ok (None, i)) seen ∙ bind_step (p i) (λ (x : A). pure (some_of x)) (x, r.0) r.1, r.2)
 
@@ -320,16 +332,14 @@ choice_rule {A} {p} {q} {written} {IsFit_p} {IsFit_q} {follow_p} {follow_q} sees
     read i j x source false e =
         let t = second.takes i j x source e in
         (t.0, inr t.1)
-    seen_as : (i j : Input) (ws : List Written) → Takes i ws j → IsEnd j → sees (front i) (front (next i)) ≡ begins sees ws
-    seen_as i j ws t end = ap (λ (f : Form). sees f (front (next i))) (takes_front ws i j t end) ∙ ap (λ (f : Form). sees (first_form ws) f) (takes_second ws i j t end)
     reread : (i j : Input) (x : A) (ws : List Written) → Takes i (written x ++ ws) j → IsEnd j → (follow_p ws ≡ true) × (follow_q ws ≡ true) → IsFit_p x ⊎ IsFit_q x
         → (m : Input) × ((if sees (front i) (front (next i)) then p i else q i) ≡ Ok (x, m)) × Takes m ws j
     reread i j x ws t end follows (inl fit) =
-        let seen : sees (front i) (front (next i)) ≡ true = seen_as i j (written x ++ ws) t end ∙ begun x ws fit follows.0 in
+        let seen : sees (front i) (front (next i)) ≡ true = seen_as sees i j (written x ++ ws) t end ∙ begun x ws fit follows.0 in
         let r = first.again i j x ws t end fit follows.0 in
         (r.0, ap (λ (b : Bool). if b then p i else q i) seen ∙ r.1, r.2)
     reread i j x ws t end follows (inr fit) =
-        let seen : sees (front i) (front (next i)) ≡ false = seen_as i j (written x ++ ws) t end ∙ not_begun x ws fit follows.1 in
+        let seen : sees (front i) (front (next i)) ≡ false = seen_as sees i j (written x ++ ws) t end ∙ not_begun x ws fit follows.1 in
         let r = second.again i j x ws t end fit follows.1 in
         (r.0, ap (λ (b : Bool). if b then p i else q i) seen ∙ r.1, r.2)
 
@@ -349,6 +359,7 @@ comma_stands i e =
     let some : front i ≡ form.Other → ⊥ = λ (other : front i ≡ form.Other). cc in
     record { some = front_some i some; form = is; kept = tt }
 
+-- parts that are found behind commas are written so and fit
 commas_found : {A : Type 0} {p : Reader A} {written : A → List Written} {IsFit : A → Type 0} {may_follow : Follow} → Rule p written IsFit may_follow
     → (n : ℕ) (found : List A) (i j : Input) (xs : List A) → IsSource i → commas_from p n found i ≡ Ok (xs, j)
     → (more : List A) × (xs ≡ found ++ more) × Takes i (behind_commas written more) j × AllByRecursion IsFit more
@@ -378,6 +389,7 @@ rest_follows : {A : Type 0} (written : A → List Written) (may_follow : Follow)
 rest_follows written may_follow comma [] ws follows = follows
 rest_follows written may_follow comma (x ∷ more) ws follows = comma ((written x ++ behind_commas written more) ++ ws)
 
+-- parts that are written behind commas are found
 commas_again : {A : Type 0} {p : Reader A} {written : A → List Written} {IsFit : A → Type 0} {may_follow : Follow} → Rule p written IsFit may_follow
     → ((ws : List Written) → may_follow (bare (form.Mark 44) ∷ ws) ≡ true)
     → (n : ℕ) (found more : List A) (i j : Input) (ws : List Written) → length more ≤ n → Takes i (behind_commas written more ++ ws) j → IsEnd j → AllByRecursion IsFit more
@@ -443,6 +455,7 @@ separated_rule {A} {p} {written} {IsFit} {may_follow} rule some comma = record {
         let s = commas_again rule comma (length r.0.tokens) (x ∷ []) xs r.0 j ws le r.2 end fit.1 follows.0 follows.1 in
         (s.0, bind_step (p i) (λ y. commas p (y ∷ [])) (x, r.0) r.1 ∙ s.1, s.2)
 
+-- parts that are found up to the end are written so and fit
 many_found : {A : Type 0} {p : Reader A} {written : A → List Written} {IsFit : A → Type 0} (stops : Form → Bool) → Rule p written IsFit anything
     → (n : ℕ) (found : List A) (i j : Input) (xs : List A) → IsSource i → many_from stops p n found i ≡ Ok (xs, j)
     → (more : List A) × (xs ≡ found ++ more) × Takes i (one_by_one written more) j × AllByRecursion IsFit more
@@ -466,6 +479,7 @@ many_found {A} {p} {written} {IsFit} stops rule (suc n) found i j xs source e = 
         let r = others (found ++ a.0.0 ∷ []) a.0.1 j xs (takes_source (written a.0.0) i a.0.1 source t.0) a.2 in
         (a.0.0 ∷ r.0, r.1 ∙ append_assoc found (a.0.0 ∷ []) r.0, takes_join (written a.0.0) (one_by_one written r.0) i a.0.1 j t.0 r.2, (t.1, r.3))
 
+-- parts that are written up to the end are found
 many_again : {A : Type 0} {p : Reader A} {written : A → List Written} {IsFit : A → Type 0} (stops : Form → Bool) → Rule p written IsFit anything
     → ((x : A) (ws : List Written) → IsFit x → stops (first_form (written x ++ ws)) ≡ false)
     → (n : ℕ) (found more : List A) (i j : Input) (ws : List Written) → length more ≤ n → Takes i (one_by_one written more ++ ws) j → IsEnd j → AllByRecursion IsFit more
@@ -521,6 +535,7 @@ written_takes text number (token ∷ tokens) (w ∷ ws) h =
     let r = written_takes text (number + 1) tokens ws h.1 in
     (r.0, r.1, (record { some = omega arith; form = h.0.form; kept = h.0.place }, r.2))
 
+-- what is written is what the tokens are, where all are taken
 pub takes_written : (text : List ℕ) (number : ℕ) (tokens : List Token) (ws : List Written) (j : Input) → IsEnd j → Takes (record { text = text; tokens = tokens; number = number }) ws j
     → AreWritten text number tokens ws
 unfolding front place next
