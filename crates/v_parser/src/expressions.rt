@@ -7,6 +7,7 @@ ghost use Rattle.v_parser.specs.Expressions as spec;
 
 use crate::cursor::Cursor;
 use crate::fault::ParseFault;
+use crate::lists::passes_comma;
 use sqlite_items::Items;
 use v_tree::{Expr, ExprList, Pick, Range, Select, Target, TargetList};
 
@@ -94,20 +95,26 @@ fn atom(cursor: &mut Cursor<'_>) -> Result<Expr, ParseFault>
     Ok(Expr::Based(place, literal))
 }
 
-/// Whether a comma comes next, which is passed.
-fn passes_comma(cursor: &mut Cursor<'_>) -> bool
-    ensures seen { result ≡ input.is_mark 44 (input.front cursor.old) }
-    ensures passed { cursor.new ≡ input.passed_comma cursor.old }
+/// Expressions with commas between, with concatenations so deep at most.
+#[cycle(expr)]
+#[tactic(auto, unfolding(crate::specs::Input::separated, crate::specs::Input::commas, crate::specs::Input::commas_from))]
+fn exprs_at(cursor: &mut Cursor<'_>, depth: u32) -> Result<ExprList, ParseFault>
+    ensures { Reads (input.separated (spec.expr_at depth) cursor.old) result cursor.new }
 {
-    let sees = cursor.sees_mark(b',');
-    if sees {
-        cursor.advance();
+    let mut parts = Items::new(cursor.alloc());
+    parts.push(expr_at(cursor, depth)?)?;
+    for _ in 0..cursor.left() {
+        if !passes_comma(cursor) {
+            return Ok(parts);
+        }
+        parts.push(expr_at(cursor, depth)?)?;
     }
-    sees
+    Ok(parts)
 }
 
 /// An expression with concatenations so deep at most.
-#[tactic(auto, unfolding(crate::specs::Expressions::expr_at, crate::specs::Input::choice, crate::specs::Input::separated, crate::specs::Input::commas))]
+#[cycle(expr)]
+#[tactic(auto, unfolding(crate::specs::Expressions::expr_at, crate::specs::Input::choice))]
 fn expr_at(cursor: &mut Cursor<'_>, depth: u32) -> Result<Expr, ParseFault>
     ensures { Reads (spec.expr_at depth cursor.old) result cursor.new }
 {
@@ -115,14 +122,7 @@ fn expr_at(cursor: &mut Cursor<'_>, depth: u32) -> Result<Expr, ParseFault>
         return atom(cursor);
     }
     let place = cursor.mark(b'{')?;
-    let mut parts = Items::new(cursor.alloc());
-    parts.push(expr_at(cursor, depth - 1)?)?;
-    for _ in 0..cursor.left() {
-        if !passes_comma(cursor) {
-            break;
-        }
-        parts.push(expr_at(cursor, depth - 1)?)?;
-    }
+    let parts = exprs_at(cursor, depth - 1)?;
     cursor.skip(b'}')?;
     Ok(Expr::Concat(place, parts))
 }

@@ -5,5 +5,6 @@ mod cursor;
 mod drives;
 mod expressions;
 mod fault;
+mod lists;
 
 pub use fault::ParseFault;

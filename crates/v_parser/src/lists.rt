@@ -1,0 +1,57 @@
+//! Lists of parts of one kind.
+
+ghost use Rattle.std.specs.Prelude.{◌≡◌};
+ghost use Rattle.v_parser.specs.Input as input;
+ghost use Rattle.v_parser.specs.Input.{Reads};
+
+use crate::cursor::Cursor;
+use crate::fault::ParseFault;
+use sqlite_items::Items;
+
+/// A part of a tree that is read by itself.
+pub trait Part: Sized + Drop {
+    ghost use Rattle.v_parser.specs.Input.{Reader, Reads};
+
+    /// How it is read.
+    ghost reader: { Reader Self };
+
+    fn read(cursor: &mut Cursor<'_>) -> Result<Self, ParseFault>
+        ensures { Reads (reader cursor.old) result cursor.new };
+}
+
+/// Whether a comma comes next, which is passed.
+#[tactic(auto, unfolding(crate::specs::Input::front))]
+pub fn passes_comma(cursor: &mut Cursor<'_>) -> bool
+    ensures seen { result ≡ input.is_mark 44 (input.front cursor.old) }
+    ensures passed { cursor.new ≡ input.passed_comma cursor.old }
+{
+    let sees = cursor.sees_mark(b',');
+    if sees {
+        cursor.advance();
+    }
+    sees
+}
+
+/// Parts, each behind a comma, put behind those that were found.
+#[tactic(auto, unfolding(crate::specs::Input::commas, crate::specs::Input::commas_from))]
+pub fn commas<P: Part>(cursor: &mut Cursor<'_>, mut found: Items<P>) -> Result<Items<P>, ParseFault>
+    ensures { Reads (input.commas P.reader found cursor.old) result cursor.new }
+{
+    for _ in 0..cursor.left() {
+        if !passes_comma(cursor) {
+            return Ok(found);
+        }
+        found.push(P::read(cursor)?)?;
+    }
+    Ok(found)
+}
+
+/// One part or several, with commas between.
+#[tactic(auto, unfolding(crate::specs::Input::separated))]
+pub fn separated<P: Part>(cursor: &mut Cursor<'_>) -> Result<Items<P>, ParseFault>
+    ensures { Reads (input.separated P.reader cursor.old) result cursor.new }
+{
+    let mut found = Items::new(cursor.alloc());
+    found.push(P::read(cursor)?)?;
+    commas(cursor, found)
+}
