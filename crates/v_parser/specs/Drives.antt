@@ -1,44 +1,73 @@
 -- Drives, charges and delays.
-use Rattle.std.specs.Prelude.{ℕ, Bool, true, false, if◌then◌else◌, List, codes, Option, Some, None, ◌∷◌, []}
-use Rattle.std.specs.Str.{bytes_eq}
+use Rattle.std.specs.Prelude.{ℕ, Bool, true, false, ◌&&◌, List, Option, Some, None}
 use Rattle.v_tree.specs.declared.places.Place.{Place}
-use Rattle.v_tree.specs.declared.drives.Drive.{Drive}
 use Rattle.v_tree.specs.declared.drives.Level.{Level}
-use Rattle.v_tree.specs.declared.drives.Strength.{Strength}
-use Rattle.v_tree.specs.declared.drives.Strength.TheVariants.{Supply, Strong, Pull, Weak, Highz}
+use Rattle.v_tree.specs.declared.drives.Drive.{Drive}
+use Rattle.v_tree.specs.declared.drives.PullLevels.{PullLevels}
+use Rattle.v_tree.specs.declared.drives.Charge.{Charge}
+use Rattle.v_tree.specs.declared.drives.DelayValue.{DelayValue}
+use Rattle.v_tree.specs.declared.drives.DelayValue.TheVariants.{One, Three}
+use Rattle.v_tree.specs.declared.drives.Delay.{Delay}
+use Rattle.v_tree.specs.declared.drives.Delay.TheVariants as delays
+use Rattle.v_tree.specs.declared.drives.DelaySpec.{DelaySpec}
 use Rattle.v_tree.specs.Written.{Form}
-use Rattle.v_tree.specs.Written as form
-use Rattle.v_parser.specs.Input.{Reader, ◌<$>◌, ◌&◌, token, mark, skip, word_in}
+use Rattle.v_parser.specs.Input.{Reader, ◌<$>◌, ◌&◌, token, mark, skip, number, is_mark, optional, choice, separated}
+use Rattle.v_parser.specs.Expressions.{sees_mark, sees_number}
+use Rattle.v_parser.specs.Words.{level_in, sees_level, charge_in}
 
--- what a word names by a table
-abbrev pub named : {A : Type 0} → List (List ℕ × A) → List ℕ → Option A
-named [] word = None
-named (entry ∷ entries) word = if bytes_eq word entry.0 then Some entry.1 else named entries word
-
-abbrev pub level : Strength → Bool → Level
-level strength of_one = record { strength = strength; of_one = of_one }
-
-unfoldable pub levels : List (List ℕ × Level)
-levels = (codes "supply0", level Supply false) ∷ (codes "supply1", level Supply true) ∷ (codes "strong0", level Strong false) ∷ (codes "strong1", level Strong true)
-    ∷ (codes "pull0", level Pull false) ∷ (codes "pull1", level Pull true) ∷ (codes "weak0", level Weak false) ∷ (codes "weak1", level Weak true)
-    ∷ (codes "highz0", level Highz false) ∷ (codes "highz1", level Highz true) ∷ []
-
-unfoldable pub level_of : List ℕ → Option Level
-level_of word = named levels word
-
--- what a word among the forms names
-abbrev pub chosen : {A : Type 0} → (List ℕ → Option A) → Option (List ℕ) → Option A
-chosen name None = None
-chosen name (Some word) = name word
-
-abbrev pub level_in : Form → Option Level
-level_in f = chosen level_of (word_in f)
-
-unfoldable pub level_word : Reader Level
-level_word = (λ p. p.0) <$> token level_in
+-- a level, without its place
+unfoldable pub level : Reader Level
+level = (λ z. z.0) <$> token level_in
 
 abbrev pub drive_of : Place × (Level × (Unit {0} × (Level × Unit {0}))) → Drive
 drive_of z = record { place = z.0; first = z.1.0; second = z.1.1.1.0 }
 
+-- `( level , level )`
 unfoldable pub drive : Reader Drive
-drive = drive_of <$> (mark 40 & level_word & skip 44 & level_word & skip 41)
+drive = drive_of <$> (mark 40 & level & skip 44 & level & skip 41)
+
+-- `(` and a level
+abbrev pub sees_drive : Form → Form → Bool
+sees_drive f g = is_mark 40 f && sees_level g g
+
+-- `, level`
+unfoldable pub second_level : Reader Level
+second_level = (λ z. z.1) <$> (skip 44 & level)
+
+abbrev pub pull_of : Place × (Level × (Option Level × Unit {0})) → PullLevels
+pull_of z = record { place = z.0; first = z.1.0; second = z.1.1.0 }
+
+-- `( level )` or `( level , level )`
+unfoldable pub pull_levels : Reader PullLevels
+pull_levels = pull_of <$> (mark 40 & level & optional (sees_mark 44) second_level & skip 41)
+
+-- a word for a charge, without its place
+unfoldable pub charge_named : Reader Charge
+charge_named = (λ z. z.0) <$> token charge_in
+
+-- `( charge )`
+unfoldable pub charge : Reader Charge
+charge = (λ z. z.1.0) <$> (skip 40 & charge_named & skip 41)
+
+-- `: number : number`
+unfoldable pub other_values : Reader (ℕ × ℕ)
+other_values = (λ z. (z.1.0, z.1.1.1)) <$> (skip 58 & number & skip 58 & number)
+
+abbrev pub delay_value_with : ℕ → Option (ℕ × ℕ) → DelayValue
+delay_value_with n None = One n
+delay_value_with n (Some others) = Three n others.0 others.1
+
+-- a number, or three with `:` between
+unfoldable pub delay_value : Reader DelayValue
+delay_value = (λ z. delay_value_with z.0 z.1) <$> (number & optional (sees_mark 58) other_values)
+
+-- `( value , .. )`
+unfoldable pub delay_values : Reader Delay
+delay_values = (λ z. delays.Values z.1.0) <$> (skip 40 & separated delay_value & skip 41)
+
+abbrev pub delay_of : Place × Delay → DelaySpec
+delay_of z = record { place = z.0; delay = z.1 }
+
+-- `# number` or `# ( value , .. )`
+unfoldable pub delay_spec : Reader DelaySpec
+delay_spec = delay_of <$> (mark 35 & choice sees_number (delays.Number <$> number) delay_values)

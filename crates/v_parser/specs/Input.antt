@@ -162,6 +162,15 @@ abbrev pub is_number : Form → Bool
 is_number (form.Number n) = true
 is_number _ = false
 
+abbrev pub is_based : Form → Bool
+is_based (form.Based literal) = true
+is_based _ = false
+
+-- the end of the text
+abbrev pub is_finish : Form → Bool
+is_finish form.End = true
+is_finish _ = false
+
 abbrev pub is_mark : ℕ → Form → Bool
 is_mark byte (form.Mark b) = b == byte
 is_mark byte _ = false
@@ -188,6 +197,14 @@ skip byte = (λ p. p.0) <$> token (λ f. where_true (is_mark byte f))
 -- a word, with its place
 unfoldable pub word : List ℕ → Reader Place
 word bytes = (λ p. p.1) <$> token (λ f. where_true (is_word bytes f))
+
+-- a word
+unfoldable pub skip_word : List ℕ → Reader (Unit {0})
+skip_word bytes = (λ p. p.0) <$> token (λ f. where_true (is_word bytes f))
+
+-- the end of the text
+unfoldable pub finish : Reader (Unit {0})
+finish = (λ p. p.0) <$> token (λ f. where_true (is_finish f))
 
 -- ---- parts that may be there, and lists
 

@@ -1,4 +1,8 @@
 pub mod Input
 pub mod Cursor
-pub mod Drives
+pub mod Words
 pub mod Expressions
+pub mod Drives
+pub mod Declarations
+pub mod Gates
+pub mod Modules

@@ -6,5 +6,6 @@ mod drives;
 mod expressions;
 mod fault;
 mod lists;
+mod words;
 
 pub use fault::ParseFault;

@@ -1,8 +1,48 @@
--- What names, numbers, literals and lists of a tree keep.
-use Rattle.std.specs.Prelude.{ℕ, ◌<◌, ◌≤◌, ◌^◌, List, length, Option, Some, None}
+-- What the names, numbers, literals, lists and concatenations of a tree keep.
+use Rattle.std.specs.Prelude.{◌≡◌, ℕ, zero, suc, ◌<◌, ◌≤◌, ◌^◌, List, [], length, Option, Some, None}
 use Rattle.std.specs.List.{AllByRecursion}
 use Rattle.v_lexer.specs.declared.values.Literal.{Literal}
-use Rattle.v_tree.specs.Written.{Form, Name, Word, Number, Based, Mark, Symbol, End, Other}
+use Rattle.v_tree.specs.declared.places.Name.{Name}
+use Rattle.v_tree.specs.declared.expressions.Range.{Range}
+use Rattle.v_tree.specs.declared.expressions.Select.{Select}
+use Rattle.v_tree.specs.declared.expressions.Pick.{Pick}
+use Rattle.v_tree.specs.declared.expressions.Expr.{Expr, out-Expr}
+use Rattle.v_tree.specs.declared.expressions.Expr.TheOpen.{Expr-F}
+use Rattle.v_tree.specs.declared.expressions.Target.{Target, out-Target}
+use Rattle.v_tree.specs.declared.expressions.Target.TheOpen.{Target-F}
+use Rattle.v_tree.specs.declared.drives.DelayValue.{DelayValue}
+use Rattle.v_tree.specs.declared.drives.DelayValue.TheVariants.{One, Three}
+use Rattle.v_tree.specs.declared.drives.Delay.{Delay}
+use Rattle.v_tree.specs.declared.drives.Delay.TheVariants as delays
+use Rattle.v_tree.specs.declared.drives.DelaySpec.{DelaySpec}
+use Rattle.v_tree.specs.declared.declarations.Spread.{Spread}
+use Rattle.v_tree.specs.declared.declarations.PortDecl.{PortDecl}
+use Rattle.v_tree.specs.declared.declarations.ValuedName.{ValuedName}
+use Rattle.v_tree.specs.declared.declarations.Declared.{Declared}
+use Rattle.v_tree.specs.declared.declarations.Declared.TheVariants as declares
+use Rattle.v_tree.specs.declared.declarations.NetDecl.{NetDecl}
+use Rattle.v_tree.specs.declared.declarations.TriregDecl.{TriregDecl}
+use Rattle.v_tree.specs.declared.declarations.Pair.{Pair}
+use Rattle.v_tree.specs.declared.declarations.AssignItem.{AssignItem}
+use Rattle.v_tree.specs.declared.gates.Terms.{Terms}
+use Rattle.v_tree.specs.declared.gates.GateKind.{GateKind}
+use Rattle.v_tree.specs.declared.gates.GateKind.TheVariants as gate
+use Rattle.v_tree.specs.declared.gates.GateItem.{GateItem}
+use Rattle.v_tree.specs.declared.gates.Connection.{Connection}
+use Rattle.v_tree.specs.declared.gates.Connections.{Connections}
+use Rattle.v_tree.specs.declared.gates.Connections.TheVariants.{ByPlace, ByName}
+use Rattle.v_tree.specs.declared.gates.Inst.{Inst}
+use Rattle.v_tree.specs.declared.gates.Instance.{Instance}
+use Rattle.v_tree.specs.declared.modules.AnsiPort.{AnsiPort}
+use Rattle.v_tree.specs.declared.modules.AnsiEntry.{AnsiEntry}
+use Rattle.v_tree.specs.declared.modules.AnsiEntry.TheVariants as entry
+use Rattle.v_tree.specs.declared.modules.Ports.{Ports}
+use Rattle.v_tree.specs.declared.modules.Ports.TheVariants as ports
+use Rattle.v_tree.specs.declared.modules.Item.{Item}
+use Rattle.v_tree.specs.declared.modules.Item.TheVariants as item
+use Rattle.v_tree.specs.declared.modules.Module.{Module}
+use Rattle.v_tree.specs.declared.modules.File.{File}
+use Rattle.v_tree.specs.Written.{Form, Name as NameForm, Word, Number, Based, Mark, Symbol, End, Other}
 
 abbrev pub IsVisible : ℕ → Type 0
 IsVisible byte = (33 ≤ byte) × (byte ≤ 126)
@@ -23,7 +63,7 @@ pub record IsLiteral (literal : Literal) : Type 0 where
 
 -- what a token says is what a tree may keep
 abbrev pub IsSoundForm : Form → Type 0
-IsSoundForm (Name text) = IsNameText text
+IsSoundForm (NameForm text) = IsNameText text
 IsSoundForm (Word word) = Unit {0}
 IsSoundForm (Number n) = IsNumber n
 IsSoundForm (Based literal) = IsLiteral literal
@@ -46,3 +86,161 @@ pub record AreSome {A : Type 0} (IsFit : A → Type 0) (xs : List A) : Type 0 wh
 abbrev pub IsFitIfThere : {A : Type 0} → (A → Type 0) → Option A → Type 0
 IsFitIfThere IsFit None = Unit {0}
 IsFitIfThere IsFit (Some x) = IsFit x
+
+-- a part that has nothing to keep
+abbrev pub IsFree : {A : Type 0} → A → Type 0
+IsFree x = Unit {0}
+
+abbrev pub IsFitName : Name → Type 0
+IsFitName n = IsNameText n.text
+
+-- ---- expressions
+
+abbrev pub IsFitRange : Range → Type 0
+IsFitRange r = IsNumber r.left × IsNumber r.right
+
+abbrev pub IsFitSelect : Select → Type 0
+IsFitSelect s = IsNumber s.left × IsFitIfThere IsNumber s.right
+
+abbrev pub IsFitPick : Pick → Type 0
+IsFitPick p = IsFitName p.name × IsFitIfThere IsFitSelect p.select
+
+-- one layer of an expression, with what its parts keep
+abbrev pub IsFitExprLayer : (List Expr → Type 0) → Expr-F Expr → Type 0
+IsFitExprLayer AreParts (Expr-F.Pick p) = IsFitPick p
+IsFitExprLayer AreParts (Expr-F.Number place n) = IsNumber n
+IsFitExprLayer AreParts (Expr-F.Based place literal) = IsLiteral literal
+IsFitExprLayer AreParts (Expr-F.Concat place parts) = AreParts parts
+
+-- an expression whose concatenations stand so deep in one another at most
+abbrev pub IsFitExprAt : ℕ → Expr → Type 0
+IsFitExprAt zero e = IsFitExprLayer (λ parts. ⊥) (out-Expr e)
+IsFitExprAt (suc depth) e = IsFitExprLayer (AreSome (IsFitExprAt depth)) (out-Expr e)
+
+-- concatenations stand at most 64 deep
+abbrev pub IsFitExpr : Expr → Type 0
+IsFitExpr e = IsFitExprAt 64 e
+
+abbrev pub IsFitTargetLayer : (List Target → Type 0) → Target-F Target → Type 0
+IsFitTargetLayer AreParts (Target-F.Pick p) = IsFitPick p
+IsFitTargetLayer AreParts (Target-F.Concat place parts) = AreParts parts
+
+abbrev pub IsFitTargetAt : ℕ → Target → Type 0
+IsFitTargetAt zero t = IsFitTargetLayer (λ parts. ⊥) (out-Target t)
+IsFitTargetAt (suc depth) t = IsFitTargetLayer (AreSome (IsFitTargetAt depth)) (out-Target t)
+
+abbrev pub IsFitTarget : Target → Type 0
+IsFitTarget t = IsFitTargetAt 64 t
+
+-- ---- delays
+
+abbrev pub IsFitDelayValue : DelayValue → Type 0
+IsFitDelayValue (One n) = IsNumber n
+IsFitDelayValue (Three a b c) = IsNumber a × IsNumber b × IsNumber c
+
+abbrev pub IsFitDelay : Delay → Type 0
+IsFitDelay (delays.Number n) = IsNumber n
+IsFitDelay (delays.Values values) = AreSome IsFitDelayValue values
+
+abbrev pub IsFitDelaySpec : DelaySpec → Type 0
+IsFitDelaySpec d = IsFitDelay d.delay
+
+-- ---- declarations
+
+pub record IsFitPortDecl (d : PortDecl) : Type 0 where
+  pub range : IsFitIfThere IsFitRange d.range
+  pub names : AreSome IsFitName d.names
+
+abbrev pub IsFitSpread : Spread → Type 0
+IsFitSpread s = IsFitRange s.range
+
+abbrev pub IsFitValuedName : ValuedName → Type 0
+IsFitValuedName v = IsFitName v.name × IsFitExpr v.value
+
+abbrev pub IsFitDeclared : Declared → Type 0
+IsFitDeclared (declares.Names names) = AreSome IsFitName names
+IsFitDeclared (declares.Valued names) = AreSome IsFitValuedName names
+
+pub record IsFitNetDecl (d : NetDecl) : Type 0 where
+  pub spread : IsFitIfThere IsFitSpread d.spread
+  pub delay : IsFitIfThere IsFitDelaySpec d.delay
+  pub declared : IsFitDeclared d.declared
+
+pub record IsFitTriregDecl (d : TriregDecl) : Type 0 where
+  pub spread : IsFitIfThere IsFitSpread d.spread
+  pub delay : IsFitIfThere IsFitDelaySpec d.delay
+  pub names : AreSome IsFitName d.names
+
+abbrev pub IsFitPair : Pair → Type 0
+IsFitPair p = IsFitTarget p.target × IsFitExpr p.value
+
+pub record IsFitAssignItem (a : AssignItem) : Type 0 where
+  pub delay : IsFitIfThere IsFitDelaySpec a.delay
+  pub pairs : AreSome IsFitPair a.pairs
+
+-- ---- gates and instances
+
+pub record IsFitTerms (t : Terms) : Type 0 where
+  pub name : IsFitIfThere IsFitName t.name
+  pub terminals : AreSome IsFitExpr t.terminals
+
+abbrev pub IsFitGateKind : GateKind → Type 0
+IsFitGateKind (gate.Logic kind strength time) = IsFitIfThere IsFitDelaySpec time
+IsFitGateKind (gate.Switch kind time) = IsFitIfThere IsFitDelaySpec time
+IsFitGateKind (gate.Tran kind) = Unit {0}
+IsFitGateKind (gate.Pull kind levels) = Unit {0}
+
+pub record IsFitGateItem (g : GateItem) : Type 0 where
+  pub kind : IsFitGateKind g.kind
+  pub gates : AreSome IsFitTerms g.gates
+
+pub record IsFitConnection (c : Connection) : Type 0 where
+  pub port : IsFitName c.port
+  pub value : IsFitIfThere IsFitExpr c.value
+
+abbrev pub IsFitConnections : Connections → Type 0
+IsFitConnections (ByPlace values) = AreSome (IsFitIfThere IsFitExpr) values
+IsFitConnections (ByName values) = AreSome IsFitConnection values
+
+pub record IsFitInst (i : Inst) : Type 0 where
+  pub name : IsFitIfThere IsFitName i.name
+  pub connections : IsFitConnections i.connections
+
+pub record IsFitInstance (i : Instance) : Type 0 where
+  pub name : IsFitName i.name
+  pub delay : IsFitIfThere IsFitDelaySpec i.delay
+  pub instances : AreSome IsFitInst i.instances
+
+-- ---- modules
+
+abbrev pub IsFitItem : Item → Type 0
+IsFitItem (item.Ports d) = IsFitPortDecl d
+IsFitItem (item.Nets d) = IsFitNetDecl d
+IsFitItem (item.Trireg d) = IsFitTriregDecl d
+IsFitItem (item.Assign a) = IsFitAssignItem a
+IsFitItem (item.Gates g) = IsFitGateItem g
+IsFitItem (item.Instances i) = IsFitInstance i
+
+pub record IsFitAnsiPort (p : AnsiPort) : Type 0 where
+  pub range : IsFitIfThere IsFitRange p.range
+  pub name : IsFitName p.name
+
+abbrev pub IsFitAnsiEntry : AnsiEntry → Type 0
+IsFitAnsiEntry (entry.Port p) = IsFitAnsiPort p
+IsFitAnsiEntry (entry.Name n) = IsFitName n
+
+abbrev pub IsFitPorts : Ports → Type 0
+IsFitPorts ports.Absent = Unit {0}
+IsFitPorts ports.Empty = Unit {0}
+IsFitPorts (ports.Names names) = AreSome IsFitName names
+IsFitPorts (ports.Ansi first others) = IsFitAnsiPort first × AreFit IsFitAnsiEntry others
+
+pub record IsFitModule (m : Module) : Type 0 where
+  pub name : IsFitName m.name
+  pub ports : IsFitPorts m.ports
+  pub items : AreFit IsFitItem m.items
+
+-- a file that keeps all of it: its primitives are none, as long as the grammar here has none
+pub record IsFitFile (f : File) : Type 0 where
+  pub modules : AreFit IsFitModule f.modules
+  pub udps : f.udps ≡ []

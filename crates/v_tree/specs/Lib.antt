@@ -1,2 +1,4 @@
 pub mod Written
 pub mod Fit
+pub mod Words
+pub mod Spelling

@@ -49,11 +49,11 @@ pub enum PullGate {
     Pulldown,
 }
 
-/// `[ Name ] ( expr , .. )`: one gate of an item. `open` is the place of the `(`.
+/// `[ Name ] ( expr , .. )`: one gate of an item. `paren` is the place of the `(`.
 #[derive(Drop)]
 pub struct Terms {
     pub name: Option<Name>,
-    pub open: Place,
+    pub paren: Place,
     pub terminals: ExprList,
 }
 
@@ -98,11 +98,11 @@ pub enum Connections {
     ByName(ConnectionList),
 }
 
-/// `[ Name ] ( connections )`: one instance of an item. `open` is the place of the `(`.
+/// `[ Name ] ( connections )`: one instance of an item. `paren` is the place of the `(`.
 #[derive(Drop)]
 pub struct Inst {
     pub name: Option<Name>,
-    pub open: Place,
+    pub paren: Place,
     pub connections: Connections,
 }
 

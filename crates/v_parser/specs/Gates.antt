@@ -1,0 +1,86 @@
+-- Gates, switches and instances.
+use Rattle.std.specs.Prelude.{ℕ, Bool, ◌||◌, List, Option}
+use Rattle.v_tree.specs.declared.places.Place.{Place}
+use Rattle.v_tree.specs.declared.places.Name.{Name}
+use Rattle.v_tree.specs.declared.expressions.Expr.{Expr}
+use Rattle.v_tree.specs.declared.drives.Drive.{Drive}
+use Rattle.v_tree.specs.declared.drives.PullLevels.{PullLevels}
+use Rattle.v_tree.specs.declared.drives.DelaySpec.{DelaySpec}
+use Rattle.v_tree.specs.declared.gates.LogicGate.{LogicGate}
+use Rattle.v_tree.specs.declared.gates.Switch.{Switch}
+use Rattle.v_tree.specs.declared.gates.TranGate.{TranGate}
+use Rattle.v_tree.specs.declared.gates.PullGate.{PullGate}
+use Rattle.v_tree.specs.declared.gates.Terms.{Terms}
+use Rattle.v_tree.specs.declared.gates.GateKind.{GateKind}
+use Rattle.v_tree.specs.declared.gates.GateKind.TheVariants as kind
+use Rattle.v_tree.specs.declared.gates.GateItem.{GateItem}
+use Rattle.v_tree.specs.declared.gates.Connection.{Connection}
+use Rattle.v_tree.specs.declared.gates.Connections.{Connections}
+use Rattle.v_tree.specs.declared.gates.Connections.TheVariants.{ByPlace, ByName}
+use Rattle.v_tree.specs.declared.gates.Inst.{Inst}
+use Rattle.v_tree.specs.declared.gates.Instance.{Instance}
+use Rattle.v_tree.specs.Written.{Form}
+use Rattle.v_parser.specs.Input.{Reader, ◌<$>◌, ◌&◌, token, mark, skip, name, is_mark, is_name, is_number, is_based, optional, choice, separated}
+use Rattle.v_parser.specs.Expressions.{sees_mark, sees_name}
+use Rattle.v_parser.specs.Words.{logic_in, switch_in, tran_in, pull_in}
+use Rattle.v_parser.specs.Drives.{drive, sees_drive, pull_levels, delay_spec}
+use Rattle.v_parser.specs.Declarations.{expr}
+
+abbrev pub terms_of : Option Name × (Place × (List Expr × Unit {0})) → Terms
+terms_of z = record { name = z.0; paren = z.1.0; terminals = z.1.1.0 }
+
+-- `[ Name ] ( expr , .. )`
+unfoldable pub terms : Reader Terms
+terms = terms_of <$> (optional sees_name name & mark 40 & separated expr & skip 41)
+
+abbrev pub gates_of : Place → GateKind → List Terms → GateItem
+gates_of place kind gates = record { place = place; kind = kind; gates = gates }
+
+-- `logic [ drive ] [ delay ] terms , .. ;`
+unfoldable pub logic_item : Reader GateItem
+logic_item = (λ (z : (LogicGate × Place) × (Option Drive × (Option DelaySpec × (List Terms × Unit {0})))). gates_of z.0.1 (kind.Logic z.0.0 z.1.0 z.1.1.0) z.1.1.1.0)
+    <$> (token logic_in & optional sees_drive drive & optional (sees_mark 35) delay_spec & separated terms & skip 59)
+
+-- `switch [ delay ] terms , .. ;`
+unfoldable pub switch_item : Reader GateItem
+switch_item = (λ (z : (Switch × Place) × (Option DelaySpec × (List Terms × Unit {0}))). gates_of z.0.1 (kind.Switch z.0.0 z.1.0) z.1.1.0)
+    <$> (token switch_in & optional (sees_mark 35) delay_spec & separated terms & skip 59)
+
+-- `tran terms , .. ;`
+unfoldable pub tran_item : Reader GateItem
+tran_item = (λ (z : (TranGate × Place) × (List Terms × Unit {0})). gates_of z.0.1 (kind.Tran z.0.0) z.1.0)
+    <$> (token tran_in & separated terms & skip 59)
+
+-- `pull [ ( level [ , level ] ) ] terms , .. ;`
+unfoldable pub pull_item : Reader GateItem
+pull_item = (λ (z : (PullGate × Place) × (Option PullLevels × (List Terms × Unit {0}))). gates_of z.0.1 (kind.Pull z.0.0 z.1.0) z.1.1.0)
+    <$> (token pull_in & optional sees_drive pull_levels & separated terms & skip 59)
+
+-- the first token of an expression
+abbrev pub begins_expr : Form → Form → Bool
+begins_expr f g = is_name f || is_number f || is_based f || is_mark 123 f
+
+abbrev pub connection_of : Place × (Name × (Unit {0} × (Option Expr × Unit {0}))) → Connection
+connection_of z = record { place = z.0; port = z.1.0; value = z.1.1.1.0 }
+
+-- `. Name ( [ expr ] )`
+unfoldable pub connection : Reader Connection
+connection = connection_of <$> (mark 46 & name & skip 40 & optional begins_expr expr & skip 41)
+
+-- connections by name, or by place
+unfoldable pub connections : Reader Connections
+connections = choice (sees_mark 46) (ByName <$> separated connection) (ByPlace <$> separated (optional begins_expr expr))
+
+abbrev pub inst_of : Option Name × (Place × (Connections × Unit {0})) → Inst
+inst_of z = record { name = z.0; paren = z.1.0; connections = z.1.1.0 }
+
+-- `[ Name ] ( connections )`
+unfoldable pub inst : Reader Inst
+inst = inst_of <$> (optional sees_name name & mark 40 & connections & skip 41)
+
+abbrev pub instance_of : Name × (Option Drive × (Option DelaySpec × (List Inst × Unit {0}))) → Instance
+instance_of z = record { name = z.0; drive = z.1.0; delay = z.1.1.0; instances = z.1.1.1.0 }
+
+-- `Name [ drive ] [ delay ] inst , .. ;`
+unfoldable pub instance : Reader Instance
+instance = instance_of <$> (name & optional sees_drive drive & optional (sees_mark 35) delay_spec & separated inst & skip 59)

@@ -1,0 +1,255 @@
+-- The tokens with which each part of a tree is written. A token is bare where the tree doesn't keep its place.
+use Rattle.std.specs.Prelude.{ℕ, List, [], ◌∷◌, ◌++◌, codes, Option, Some, None}
+use Rattle.v_lexer.specs.declared.values.Literal.{Literal}
+use Rattle.v_tree.specs.declared.places.Place.{Place}
+use Rattle.v_tree.specs.declared.places.Name.{Name}
+use Rattle.v_tree.specs.declared.expressions.Range.{Range}
+use Rattle.v_tree.specs.declared.expressions.Select.{Select}
+use Rattle.v_tree.specs.declared.expressions.Pick.{Pick}
+use Rattle.v_tree.specs.declared.expressions.Expr.{Expr}
+use Rattle.v_tree.specs.declared.expressions.Expr.TheOpen.{Expr-F}
+use Rattle.v_tree.specs.declared.expressions.Expr.TheFolds.{fold-Expr}
+use Rattle.v_tree.specs.declared.expressions.Target.{Target}
+use Rattle.v_tree.specs.declared.expressions.Target.TheOpen.{Target-F}
+use Rattle.v_tree.specs.declared.expressions.Target.TheFolds.{fold-Target}
+use Rattle.v_tree.specs.declared.drives.Level.{Level}
+use Rattle.v_tree.specs.declared.drives.Drive.{Drive}
+use Rattle.v_tree.specs.declared.drives.PullLevels.{PullLevels}
+use Rattle.v_tree.specs.declared.drives.Charge.{Charge}
+use Rattle.v_tree.specs.declared.drives.DelayValue.{DelayValue}
+use Rattle.v_tree.specs.declared.drives.DelayValue.TheVariants.{One, Three}
+use Rattle.v_tree.specs.declared.drives.Delay.{Delay}
+use Rattle.v_tree.specs.declared.drives.Delay.TheVariants as delays
+use Rattle.v_tree.specs.declared.drives.DelaySpec.{DelaySpec}
+use Rattle.v_tree.specs.declared.declarations.NetType.{NetType}
+use Rattle.v_tree.specs.declared.declarations.SpreadWord.{SpreadWord}
+use Rattle.v_tree.specs.declared.declarations.Spread.{Spread}
+use Rattle.v_tree.specs.declared.declarations.PortDecl.{PortDecl}
+use Rattle.v_tree.specs.declared.declarations.ValuedName.{ValuedName}
+use Rattle.v_tree.specs.declared.declarations.Declared.{Declared}
+use Rattle.v_tree.specs.declared.declarations.Declared.TheVariants as declares
+use Rattle.v_tree.specs.declared.declarations.NetDecl.{NetDecl}
+use Rattle.v_tree.specs.declared.declarations.TriregDecl.{TriregDecl}
+use Rattle.v_tree.specs.declared.declarations.Pair.{Pair}
+use Rattle.v_tree.specs.declared.declarations.AssignItem.{AssignItem}
+use Rattle.v_tree.specs.declared.gates.Terms.{Terms}
+use Rattle.v_tree.specs.declared.gates.GateKind.{GateKind}
+use Rattle.v_tree.specs.declared.gates.GateKind.TheVariants as gate
+use Rattle.v_tree.specs.declared.gates.GateItem.{GateItem}
+use Rattle.v_tree.specs.declared.gates.Connection.{Connection}
+use Rattle.v_tree.specs.declared.gates.Connections.{Connections}
+use Rattle.v_tree.specs.declared.gates.Connections.TheVariants.{ByPlace, ByName}
+use Rattle.v_tree.specs.declared.gates.Inst.{Inst}
+use Rattle.v_tree.specs.declared.gates.Instance.{Instance}
+use Rattle.v_tree.specs.declared.modules.AnsiPort.{AnsiPort}
+use Rattle.v_tree.specs.declared.modules.AnsiEntry.{AnsiEntry}
+use Rattle.v_tree.specs.declared.modules.AnsiEntry.TheVariants as entry
+use Rattle.v_tree.specs.declared.modules.Ports.{Ports}
+use Rattle.v_tree.specs.declared.modules.Ports.TheVariants as ports
+use Rattle.v_tree.specs.declared.modules.Item.{Item}
+use Rattle.v_tree.specs.declared.modules.Item.TheVariants as item
+use Rattle.v_tree.specs.declared.modules.Module.{Module}
+use Rattle.v_tree.specs.declared.modules.File.{File}
+use Rattle.v_tree.specs.Written as form
+use Rattle.v_tree.specs.Written.{Written, at, bare, written_if_there, behind_commas, between_commas, one_by_one}
+use Rattle.v_tree.specs.Words.{direction_word, net_type_word, spread_word, charge_word, logic_word, switch_word, tran_word, pull_word, opening_word, level_word}
+
+-- a mark, and a word
+abbrev pub mark : ℕ → Written
+mark byte = bare (form.Mark byte)
+
+abbrev pub placed_mark : Place → ℕ → Written
+placed_mark place byte = at place (form.Mark byte)
+
+abbrev pub word : List ℕ → Written
+word bytes = bare (form.Word bytes)
+
+abbrev pub placed_word : Place → List ℕ → Written
+placed_word place bytes = at place (form.Word bytes)
+
+abbrev pub number : ℕ → Written
+number n = bare (form.Number n)
+
+abbrev pub name : Name → List Written
+name n = at n.place (form.Name n.text) ∷ []
+
+-- ---- expressions
+
+-- `[ left : right ]`
+abbrev pub range : Range → List Written
+range r = mark 91 ∷ number r.left ∷ mark 58 ∷ number r.right ∷ mark 93 ∷ []
+
+-- `: right`
+abbrev pub bound : ℕ → List Written
+bound right = mark 58 ∷ number right ∷ []
+
+-- `[ left ]` or `[ left : right ]`
+abbrev pub select : Select → List Written
+select s = mark 91 ∷ number s.left ∷ (written_if_there bound s.right ++ mark 93 ∷ [])
+
+abbrev pub pick : Pick → List Written
+pick p = name p.name ++ written_if_there select p.select
+
+-- parts in braces
+abbrev pub concat : Place → List (List Written) → List Written
+concat place parts = placed_mark place 123 ∷ (between_commas (λ part. part) parts ++ mark 125 ∷ [])
+
+-- one layer of an expression, with what its parts are written with
+abbrev pub expr_layer : Expr-F (List Written) → List Written
+expr_layer (Expr-F.Pick p) = pick p
+expr_layer (Expr-F.Number place n) = at place (form.Number n) ∷ []
+expr_layer (Expr-F.Based place literal) = at place (form.Based literal) ∷ []
+expr_layer (Expr-F.Concat place parts) = concat place parts
+
+abbrev pub expr : Expr → List Written
+expr = fold-Expr (List Written) expr_layer
+
+-- one layer of a target, with what its parts are written with
+abbrev pub target_layer : Target-F (List Written) → List Written
+target_layer (Target-F.Pick p) = pick p
+target_layer (Target-F.Concat place parts) = concat place parts
+
+abbrev pub target : Target → List Written
+target = fold-Target (List Written) target_layer
+
+-- ---- drives, charges and delays
+
+abbrev pub level : Level → Written
+level l = word (level_word l)
+
+-- `( level , level )`
+abbrev pub drive : Drive → List Written
+drive d = placed_mark d.place 40 ∷ level d.first ∷ mark 44 ∷ level d.second ∷ mark 41 ∷ []
+
+-- `, level`
+abbrev pub second_level : Level → List Written
+second_level l = mark 44 ∷ level l ∷ []
+
+-- `( level )` or `( level , level )`
+abbrev pub pull_levels : PullLevels → List Written
+pull_levels p = placed_mark p.place 40 ∷ level p.first ∷ (written_if_there second_level p.second ++ mark 41 ∷ [])
+
+-- `( charge )`
+abbrev pub charge : Charge → List Written
+charge c = mark 40 ∷ word (charge_word c) ∷ mark 41 ∷ []
+
+-- a number, or three with `:` between
+abbrev pub delay_value : DelayValue → List Written
+delay_value (One n) = number n ∷ []
+delay_value (Three a b c) = number a ∷ mark 58 ∷ number b ∷ mark 58 ∷ number c ∷ []
+
+abbrev pub delay : Delay → List Written
+delay (delays.Number n) = number n ∷ []
+delay (delays.Values values) = mark 40 ∷ (between_commas delay_value values ++ mark 41 ∷ [])
+
+-- `# delay`
+abbrev pub delay_spec : DelaySpec → List Written
+delay_spec d = placed_mark d.place 35 ∷ delay d.delay
+
+-- ---- declarations
+
+abbrev pub net_type : NetType → List Written
+net_type t = word (net_type_word t) ∷ []
+
+-- `dir [ nettype ] [ range ] Name , .. ;`
+abbrev pub port_decl : PortDecl → List Written
+port_decl d = placed_word d.place (direction_word d.direction) ∷ (written_if_there net_type d.net_type ++ (written_if_there range d.range ++ (between_commas name d.names ++ mark 59 ∷ [])))
+
+abbrev pub spread_before : SpreadWord → List Written
+spread_before w = word (spread_word w) ∷ []
+
+abbrev pub spread : Spread → List Written
+spread s = written_if_there spread_before s.word ++ range s.range
+
+-- `Name = expr`
+abbrev pub valued_name : ValuedName → List Written
+valued_name v = name v.name ++ mark 61 ∷ expr v.value
+
+abbrev pub declared : Declared → List Written
+declared (declares.Names names) = between_commas name names
+declared (declares.Valued names) = between_commas valued_name names
+
+-- `nettype [ drive ] [ spread ] [ delay ] declared ;`
+abbrev pub net_decl : NetDecl → List Written
+net_decl d = placed_word d.place (net_type_word d.net_type)
+    ∷ (written_if_there drive d.drive ++ (written_if_there spread d.spread ++ (written_if_there delay_spec d.delay ++ (declared d.declared ++ mark 59 ∷ []))))
+
+-- `trireg [ charge ] [ spread ] [ delay ] Name , .. ;`
+abbrev pub trireg_decl : TriregDecl → List Written
+trireg_decl d = placed_word d.place (codes "trireg")
+    ∷ (written_if_there charge d.charge ++ (written_if_there spread d.spread ++ (written_if_there delay_spec d.delay ++ (between_commas name d.names ++ mark 59 ∷ []))))
+
+-- `target = expr`
+abbrev pub pair : Pair → List Written
+pair p = target p.target ++ mark 61 ∷ expr p.value
+
+-- `assign [ drive ] [ delay ] pair , .. ;`
+abbrev pub assign_item : AssignItem → List Written
+assign_item a = placed_word a.place (codes "assign") ∷ (written_if_there drive a.drive ++ (written_if_there delay_spec a.delay ++ (between_commas pair a.pairs ++ mark 59 ∷ [])))
+
+-- ---- gates and instances
+
+-- `[ Name ] ( expr , .. )`
+abbrev pub terms : Terms → List Written
+terms t = written_if_there name t.name ++ placed_mark t.paren 40 ∷ (between_commas expr t.terminals ++ mark 41 ∷ [])
+
+-- the word of a kind of gates, and what stands before the terminals
+abbrev pub gate_head : Place → GateKind → List Written
+gate_head place (gate.Logic kind strength time) = placed_word place (logic_word kind) ∷ (written_if_there drive strength ++ written_if_there delay_spec time)
+gate_head place (gate.Switch kind time) = placed_word place (switch_word kind) ∷ written_if_there delay_spec time
+gate_head place (gate.Tran kind) = placed_word place (tran_word kind) ∷ []
+gate_head place (gate.Pull kind levels) = placed_word place (pull_word kind) ∷ written_if_there pull_levels levels
+
+-- `kind terms , .. ;`
+abbrev pub gate_item : GateItem → List Written
+gate_item g = gate_head g.place g.kind ++ (between_commas terms g.gates ++ mark 59 ∷ [])
+
+-- `. Name ( [ expr ] )`
+abbrev pub connection : Connection → List Written
+connection c = placed_mark c.place 46 ∷ (name c.port ++ mark 40 ∷ (written_if_there expr c.value ++ mark 41 ∷ []))
+
+abbrev pub connections : Connections → List Written
+connections (ByPlace values) = between_commas (written_if_there expr) values
+connections (ByName values) = between_commas connection values
+
+-- `[ Name ] ( connections )`
+abbrev pub inst : Inst → List Written
+inst i = written_if_there name i.name ++ placed_mark i.paren 40 ∷ (connections i.connections ++ mark 41 ∷ [])
+
+-- `Name [ drive ] [ delay ] inst , .. ;`
+abbrev pub instance : Instance → List Written
+instance i = name i.name ++ (written_if_there drive i.drive ++ (written_if_there delay_spec i.delay ++ (between_commas inst i.instances ++ mark 59 ∷ [])))
+
+-- ---- modules
+
+abbrev pub module_item : Item → List Written
+module_item (item.Ports d) = port_decl d
+module_item (item.Nets d) = net_decl d
+module_item (item.Trireg d) = trireg_decl d
+module_item (item.Assign a) = assign_item a
+module_item (item.Gates g) = gate_item g
+module_item (item.Instances i) = instance i
+
+-- `dir [ nettype ] [ range ] Name`
+abbrev pub ansi_port : AnsiPort → List Written
+ansi_port p = placed_word p.place (direction_word p.direction) ∷ (written_if_there net_type p.net_type ++ (written_if_there range p.range ++ name p.name))
+
+abbrev pub ansi_entry : AnsiEntry → List Written
+ansi_entry (entry.Port p) = ansi_port p
+ansi_entry (entry.Name n) = name n
+
+-- nothing, or the ports in parentheses
+abbrev pub header_ports : Ports → List Written
+header_ports ports.Absent = []
+header_ports ports.Empty = mark 40 ∷ mark 41 ∷ []
+header_ports (ports.Names names) = mark 40 ∷ (between_commas name names ++ mark 41 ∷ [])
+header_ports (ports.Ansi first others) = mark 40 ∷ (ansi_port first ++ (behind_commas ansi_entry others ++ mark 41 ∷ []))
+
+-- `module Name [ ports ] ; { item } endmodule`
+abbrev pub module_spelling : Module → List Written
+module_spelling m = placed_word m.place (opening_word m.word)
+    ∷ (name m.name ++ (header_ports m.ports ++ mark 59 ∷ (one_by_one module_item m.items ++ word (codes "endmodule") ∷ [])))
+
+-- the modules of a file, and the end of the text
+abbrev pub spelling : File → List Written
+spelling f = one_by_one module_spelling f.modules ++ bare form.End ∷ []

@@ -1,0 +1,103 @@
+-- The reserved words that stand for a variant.
+use Rattle.std.specs.Prelude.{ℕ, Bool, true, false, List, codes}
+use Rattle.v_tree.specs.declared.declarations.Direction.{Direction}
+use Rattle.v_tree.specs.declared.declarations.Direction.TheVariants as direction
+use Rattle.v_tree.specs.declared.declarations.NetType.{NetType}
+use Rattle.v_tree.specs.declared.declarations.NetType.TheVariants as net_type
+use Rattle.v_tree.specs.declared.declarations.SpreadWord.{SpreadWord}
+use Rattle.v_tree.specs.declared.declarations.SpreadWord.TheVariants as spread
+use Rattle.v_tree.specs.declared.drives.Charge.{Charge}
+use Rattle.v_tree.specs.declared.drives.Charge.TheVariants as charge
+use Rattle.v_tree.specs.declared.gates.LogicGate.{LogicGate}
+use Rattle.v_tree.specs.declared.gates.LogicGate.TheVariants as logic
+use Rattle.v_tree.specs.declared.gates.Switch.{Switch}
+use Rattle.v_tree.specs.declared.gates.Switch.TheVariants as switch
+use Rattle.v_tree.specs.declared.gates.TranGate.{TranGate}
+use Rattle.v_tree.specs.declared.gates.TranGate.TheVariants as tran
+use Rattle.v_tree.specs.declared.gates.PullGate.{PullGate}
+use Rattle.v_tree.specs.declared.gates.PullGate.TheVariants as pull
+use Rattle.v_tree.specs.declared.modules.ModuleWord.{ModuleWord}
+use Rattle.v_tree.specs.declared.modules.ModuleWord.TheVariants as opening
+use Rattle.v_tree.specs.declared.drives.Strength.{Strength}
+use Rattle.v_tree.specs.declared.drives.Strength.TheVariants.{Supply, Strong, Pull, Weak, Highz}
+use Rattle.v_tree.specs.declared.drives.Level.{Level}
+
+abbrev pub direction_word : Direction → List ℕ
+direction_word direction.Input = codes "input"
+direction_word direction.Output = codes "output"
+direction_word direction.Inout = codes "inout"
+
+abbrev pub net_type_word : NetType → List ℕ
+net_type_word net_type.Wire = codes "wire"
+net_type_word net_type.Tri = codes "tri"
+net_type_word net_type.Wand = codes "wand"
+net_type_word net_type.Triand = codes "triand"
+net_type_word net_type.Wor = codes "wor"
+net_type_word net_type.Trior = codes "trior"
+net_type_word net_type.Tri0 = codes "tri0"
+net_type_word net_type.Tri1 = codes "tri1"
+net_type_word net_type.Supply0 = codes "supply0"
+net_type_word net_type.Supply1 = codes "supply1"
+
+abbrev pub spread_word : SpreadWord → List ℕ
+spread_word spread.Vectored = codes "vectored"
+spread_word spread.Scalared = codes "scalared"
+
+abbrev pub charge_word : Charge → List ℕ
+charge_word charge.Small = codes "small"
+charge_word charge.Medium = codes "medium"
+charge_word charge.Large = codes "large"
+
+abbrev pub logic_word : LogicGate → List ℕ
+logic_word logic.And = codes "and"
+logic_word logic.Nand = codes "nand"
+logic_word logic.Or = codes "or"
+logic_word logic.Nor = codes "nor"
+logic_word logic.Xor = codes "xor"
+logic_word logic.Xnor = codes "xnor"
+logic_word logic.Buf = codes "buf"
+logic_word logic.Not = codes "not"
+logic_word logic.Bufif0 = codes "bufif0"
+logic_word logic.Bufif1 = codes "bufif1"
+logic_word logic.Notif0 = codes "notif0"
+logic_word logic.Notif1 = codes "notif1"
+
+abbrev pub switch_word : Switch → List ℕ
+switch_word switch.Nmos = codes "nmos"
+switch_word switch.Pmos = codes "pmos"
+switch_word switch.Rnmos = codes "rnmos"
+switch_word switch.Rpmos = codes "rpmos"
+switch_word switch.Cmos = codes "cmos"
+switch_word switch.Rcmos = codes "rcmos"
+switch_word switch.Tranif0 = codes "tranif0"
+switch_word switch.Tranif1 = codes "tranif1"
+switch_word switch.Rtranif0 = codes "rtranif0"
+switch_word switch.Rtranif1 = codes "rtranif1"
+
+abbrev pub tran_word : TranGate → List ℕ
+tran_word tran.Tran = codes "tran"
+tran_word tran.Rtran = codes "rtran"
+
+abbrev pub pull_word : PullGate → List ℕ
+pull_word pull.Pullup = codes "pullup"
+pull_word pull.Pulldown = codes "pulldown"
+
+abbrev pub opening_word : ModuleWord → List ℕ
+opening_word opening.Module = codes "module"
+opening_word opening.Macromodule = codes "macromodule"
+
+-- the word of a strength of a value
+abbrev pub strength_word : Strength → Bool → List ℕ
+strength_word Supply false = codes "supply0"
+strength_word Supply true = codes "supply1"
+strength_word Strong false = codes "strong0"
+strength_word Strong true = codes "strong1"
+strength_word Pull false = codes "pull0"
+strength_word Pull true = codes "pull1"
+strength_word Weak false = codes "weak0"
+strength_word Weak true = codes "weak1"
+strength_word Highz false = codes "highz0"
+strength_word Highz true = codes "highz1"
+
+abbrev pub level_word : Level → List ℕ
+level_word level = strength_word level.strength level.of_one
