@@ -1,4 +1,6 @@
 pub mod WordLists
+pub mod Turns
+pub mod Nested
 pub mod Rules
 pub mod TokenRules
 pub mod ExprRules

@@ -65,9 +65,13 @@ delay_value = (λ z. delay_value_with z.0 z.1) <$> (number & optional (sees_mark
 unfoldable pub delay_values : Reader Delay
 delay_values = (λ z. delays.Values z.1.0) <$> (skip 40 & separated delay_value & skip 41)
 
+-- a number, or values in parentheses
+abbrev pub delay : Reader Delay
+delay = choice sees_number (delays.Number <$> number) delay_values
+
 abbrev pub delay_of : Place × Delay → DelaySpec
 delay_of z = record { place = z.0; delay = z.1 }
 
 -- `# number` or `# ( value , .. )`
 unfoldable pub delay_spec : Reader DelaySpec
-delay_spec = delay_of <$> (mark 35 & choice sees_number (delays.Number <$> number) delay_values)
+delay_spec = delay_of <$> (mark 35 & delay)

@@ -319,6 +319,26 @@ impl<'a> Cursor<'a> {
         Ok(value)
     }
 
+    /// The tokens after the next.
+    pub fn behind(&self) -> Cursor<'a>
+        ensures { result ≡ spec.next self.now }
+    {
+        match self.tokens {
+            [_, rest @ ..] => Cursor {
+                alloc: self.alloc,
+                text: self.text,
+                tokens: rest,
+                number: self.number + 1,
+            },
+            [] => Cursor {
+                alloc: self.alloc,
+                text: self.text,
+                tokens: self.tokens,
+                number: self.number,
+            },
+        }
+    }
+
     /// How many tokens are left.
     pub fn left(&self) -> usize
         ensures { result ≡ length self.now.tokens }
@@ -343,6 +363,13 @@ impl<'a> Cursor<'a> {
         ensures { result ≡ spec.is_number (spec.front self.now) }
     {
         self.value().is_some()
+    }
+
+    /// Whether the next token is a based number.
+    pub fn sees_based(&self) -> bool
+        ensures { result ≡ spec.is_based (spec.front self.now) }
+    {
+        self.kind() == TokenKind::Based && has_literal(self.bytes())
     }
 
     /// The next token as a literal, where it is one.

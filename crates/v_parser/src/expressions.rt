@@ -115,14 +115,52 @@ fn exprs_at(cursor: &mut Cursor<'_>, depth: u32) -> Result<ExprList, ParseFault>
 /// An expression with concatenations so deep at most.
 #[cycle(expr)]
 #[tactic(auto, unfolding(crate::specs::Expressions::expr_at, crate::specs::Input::choice))]
-fn expr_at(cursor: &mut Cursor<'_>, depth: u32) -> Result<Expr, ParseFault>
+pub fn expr_at(cursor: &mut Cursor<'_>, depth: u32) -> Result<Expr, ParseFault>
     ensures { Reads (spec.expr_at depth cursor.old) result cursor.new }
 {
-    if depth == 0 || !cursor.sees_mark(b'{') {
+    if depth == 0 {
+        return atom(cursor);
+    }
+    if !cursor.sees_mark(b'{') {
         return atom(cursor);
     }
     let place = cursor.mark(b'{')?;
     let parts = exprs_at(cursor, depth - 1)?;
     cursor.skip(b'}')?;
     Ok(Expr::Concat(place, parts))
+}
+
+/// Targets with commas between, with concatenations so deep at most.
+#[cycle(target)]
+#[tactic(auto, unfolding(crate::specs::Input::separated, crate::specs::Input::commas, crate::specs::Input::commas_from))]
+fn targets_at(cursor: &mut Cursor<'_>, depth: u32) -> Result<TargetList, ParseFault>
+    ensures { Reads (input.separated (spec.target_at depth) cursor.old) result cursor.new }
+{
+    let mut parts = Items::new(cursor.alloc());
+    parts.push(target_at(cursor, depth)?)?;
+    for _ in 0..cursor.left() {
+        if !passes_comma(cursor) {
+            return Ok(parts);
+        }
+        parts.push(target_at(cursor, depth)?)?;
+    }
+    Ok(parts)
+}
+
+/// A target with concatenations so deep at most.
+#[cycle(target)]
+#[tactic(auto, unfolding(crate::specs::Expressions::target_at, crate::specs::Input::choice))]
+pub fn target_at(cursor: &mut Cursor<'_>, depth: u32) -> Result<Target, ParseFault>
+    ensures { Reads (spec.target_at depth cursor.old) result cursor.new }
+{
+    if depth == 0 {
+        return Ok(Target::Pick(pick(cursor)?));
+    }
+    if !cursor.sees_mark(b'{') {
+        return Ok(Target::Pick(pick(cursor)?));
+    }
+    let place = cursor.mark(b'{')?;
+    let parts = targets_at(cursor, depth - 1)?;
+    cursor.skip(b'}')?;
+    Ok(Target::Concat(place, parts))
 }

@@ -1,0 +1,255 @@
+//! Declarations and assignments.
+
+ghost use Rattle.std.specs.Prelude.{◌≡◌};
+ghost use Rattle.v_parser.specs.Input as input;
+ghost use Rattle.v_parser.specs.Input.{Reads};
+ghost use Rattle.v_parser.specs.Declarations as spec;
+ghost use Rattle.v_parser.specs.Expressions.{sees_mark, range};
+ghost use Rattle.v_parser.specs.Words as words;
+
+use crate::cursor::Cursor;
+use crate::drives::{charge_if_there, delay_if_there, drive_in_parentheses};
+use crate::expressions::{expr_at, range, target_at};
+use crate::fault::ParseFault;
+use crate::lists::{Part, separated};
+use crate::words::{
+    direction_word, net_type_word, sees_net_type, sees_spread, spread_word,
+};
+use v_tree::{
+    AssignItem, Declared, Expr, Name, NetDecl, NetType, Pair, PortDecl, Range, Spread, SpreadWord,
+    Target, TriregDecl, ValuedName,
+};
+
+/// An expression whose concatenations stand at most 64 deep.
+#[tactic(auto, unfolding(crate::specs::Declarations::expr))]
+pub fn expr(cursor: &mut Cursor<'_>) -> Result<Expr, ParseFault>
+    ensures { Reads (spec.expr cursor.old) result cursor.new }
+{
+    expr_at(cursor, 64)
+}
+
+/// A target whose concatenations stand at most 64 deep.
+#[tactic(auto, unfolding(crate::specs::Declarations::target))]
+fn target(cursor: &mut Cursor<'_>) -> Result<Target, ParseFault>
+    ensures { Reads (spec.target cursor.old) result cursor.new }
+{
+    target_at(cursor, 64)
+}
+
+/// A type of nets, without its place.
+#[tactic(auto, unfolding(crate::specs::Declarations::net_type))]
+fn net_type(cursor: &mut Cursor<'_>) -> Result<NetType, ParseFault>
+    ensures { Reads (spec.net_type cursor.old) result cursor.new }
+{
+    let (net_type, _) = net_type_word(cursor)?;
+    Ok(net_type)
+}
+
+/// A type of nets, where one comes next.
+#[tactic(auto, unfolding(crate::specs::Input::optional))]
+pub fn net_type_if_there(cursor: &mut Cursor<'_>) -> Result<Option<NetType>, ParseFault>
+    ensures { Reads (input.optional words.sees_net_type spec.net_type cursor.old) result cursor.new }
+{
+    if sees_net_type(cursor) {
+        Ok(Some(net_type(cursor)?))
+    } else {
+        Ok(None)
+    }
+}
+
+/// A range, where a `[` comes next.
+#[tactic(auto, unfolding(crate::specs::Input::optional))]
+pub fn range_if_there(cursor: &mut Cursor<'_>) -> Result<Option<Range>, ParseFault>
+    ensures { Reads (input.optional (sees_mark 91) range cursor.old) result cursor.new }
+{
+    if cursor.sees_mark(b'[') {
+        Ok(Some(range(cursor)?))
+    } else {
+        Ok(None)
+    }
+}
+
+impl Part for Name {
+    ghost use Rattle.v_parser.specs.Input.{name};
+
+    ghost reader = { name };
+
+    fn read(cursor: &mut Cursor<'_>) -> Result<Name, ParseFault> {
+        cursor.name()
+    }
+}
+
+/// `dir [ nettype ] [ range ] Name , .. ;`
+#[tactic(auto, unfolding(crate::specs::Declarations::port_decl))]
+pub fn port_decl(cursor: &mut Cursor<'_>) -> Result<PortDecl, ParseFault>
+    ensures { Reads (spec.port_decl cursor.old) result cursor.new }
+{
+    let (direction, place) = direction_word(cursor)?;
+    let net_type = net_type_if_there(cursor)?;
+    let range = range_if_there(cursor)?;
+    let names = separated(cursor)?;
+    cursor.skip(b';')?;
+    Ok(PortDecl {
+        place,
+        direction,
+        net_type,
+        range,
+        names,
+    })
+}
+
+/// A word before a range, without its place.
+#[tactic(auto, unfolding(crate::specs::Declarations::spread_named))]
+fn spread_named(cursor: &mut Cursor<'_>) -> Result<SpreadWord, ParseFault>
+    ensures { Reads (spec.spread_named cursor.old) result cursor.new }
+{
+    let (word, _) = spread_word(cursor)?;
+    Ok(word)
+}
+
+/// A word before a range, where one comes next.
+#[tactic(auto, unfolding(crate::specs::Input::optional))]
+fn spread_named_if_there(cursor: &mut Cursor<'_>) -> Result<Option<SpreadWord>, ParseFault>
+    ensures { Reads (input.optional words.sees_spread spec.spread_named cursor.old) result cursor.new }
+{
+    if sees_spread(cursor) {
+        Ok(Some(spread_named(cursor)?))
+    } else {
+        Ok(None)
+    }
+}
+
+/// A range, with a word before it or without one.
+#[tactic(auto, unfolding(crate::specs::Declarations::spread))]
+fn spread(cursor: &mut Cursor<'_>) -> Result<Spread, ParseFault>
+    ensures { Reads (spec.spread cursor.old) result cursor.new }
+{
+    let word = spread_named_if_there(cursor)?;
+    let range = range(cursor)?;
+    Ok(Spread { word, range })
+}
+
+/// A spread, where it begins.
+#[tactic(auto, unfolding(crate::specs::Input::optional))]
+fn spread_if_there(cursor: &mut Cursor<'_>) -> Result<Option<Spread>, ParseFault>
+    ensures { Reads (input.optional spec.begins_spread spec.spread cursor.old) result cursor.new }
+{
+    if sees_spread(cursor) || cursor.sees_mark(b'[') {
+        Ok(Some(spread(cursor)?))
+    } else {
+        Ok(None)
+    }
+}
+
+/// `Name = expr`
+#[tactic(auto, unfolding(crate::specs::Declarations::valued_name))]
+fn valued_name(cursor: &mut Cursor<'_>) -> Result<ValuedName, ParseFault>
+    ensures { Reads (spec.valued_name cursor.old) result cursor.new }
+{
+    let name = cursor.name()?;
+    cursor.skip(b'=')?;
+    let value = expr(cursor)?;
+    Ok(ValuedName { name, value })
+}
+
+impl Part for ValuedName {
+    ghost use Rattle.v_parser.specs.Declarations.{valued_name};
+
+    ghost reader = { valued_name };
+
+    fn read(cursor: &mut Cursor<'_>) -> Result<ValuedName, ParseFault> {
+        valued_name(cursor)
+    }
+}
+
+/// Names alone, or names with values.
+#[tactic(auto, unfolding(crate::specs::Declarations::declared, crate::specs::Input::choice))]
+fn declared(cursor: &mut Cursor<'_>) -> Result<Declared, ParseFault>
+    ensures { Reads (spec.declared cursor.old) result cursor.new }
+{
+    if cursor.behind().sees_mark(b'=') {
+        Ok(Declared::Valued(separated(cursor)?))
+    } else {
+        Ok(Declared::Names(separated(cursor)?))
+    }
+}
+
+/// `nettype [ drive ] [ spread ] [ delay ] declared ;`
+#[tactic(auto, unfolding(crate::specs::Declarations::net_decl))]
+pub fn net_decl(cursor: &mut Cursor<'_>) -> Result<NetDecl, ParseFault>
+    ensures { Reads (spec.net_decl cursor.old) result cursor.new }
+{
+    let (net_type, place) = net_type_word(cursor)?;
+    let drive = drive_in_parentheses(cursor)?;
+    let spread = spread_if_there(cursor)?;
+    let delay = delay_if_there(cursor)?;
+    let declared = declared(cursor)?;
+    cursor.skip(b';')?;
+    Ok(NetDecl {
+        place,
+        net_type,
+        drive,
+        spread,
+        delay,
+        declared,
+    })
+}
+
+/// `trireg [ charge ] [ spread ] [ delay ] Name , .. ;`
+#[tactic(auto, unfolding(crate::specs::Declarations::trireg_decl))]
+pub fn trireg_decl(cursor: &mut Cursor<'_>) -> Result<TriregDecl, ParseFault>
+    ensures { Reads (spec.trireg_decl cursor.old) result cursor.new }
+{
+    let place = cursor.word(b"trireg")?;
+    let charge = charge_if_there(cursor)?;
+    let spread = spread_if_there(cursor)?;
+    let delay = delay_if_there(cursor)?;
+    let names = separated(cursor)?;
+    cursor.skip(b';')?;
+    Ok(TriregDecl {
+        place,
+        charge,
+        spread,
+        delay,
+        names,
+    })
+}
+
+/// `target = expr`
+#[tactic(auto, unfolding(crate::specs::Declarations::pair))]
+fn pair(cursor: &mut Cursor<'_>) -> Result<Pair, ParseFault>
+    ensures { Reads (spec.pair cursor.old) result cursor.new }
+{
+    let target = target(cursor)?;
+    cursor.skip(b'=')?;
+    let value = expr(cursor)?;
+    Ok(Pair { target, value })
+}
+
+impl Part for Pair {
+    ghost use Rattle.v_parser.specs.Declarations.{pair};
+
+    ghost reader = { pair };
+
+    fn read(cursor: &mut Cursor<'_>) -> Result<Pair, ParseFault> {
+        pair(cursor)
+    }
+}
+
+/// `assign [ drive ] [ delay ] pair , .. ;`
+#[tactic(auto, unfolding(crate::specs::Declarations::assign_item))]
+pub fn assign_item(cursor: &mut Cursor<'_>) -> Result<AssignItem, ParseFault>
+    ensures { Reads (spec.assign_item cursor.old) result cursor.new }
+{
+    let place = cursor.word(b"assign")?;
+    let drive = drive_in_parentheses(cursor)?;
+    let delay = delay_if_there(cursor)?;
+    let pairs = separated(cursor)?;
+    cursor.skip(b';')?;
+    Ok(AssignItem {
+        place,
+        drive,
+        delay,
+        pairs,
+    })
+}
