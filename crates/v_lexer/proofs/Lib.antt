@@ -6,3 +6,6 @@ pub mod Fronts
 pub mod Whole
 pub mod Digits
 pub mod Pieces
+pub mod Cuts
+pub mod Meanings
+pub mod Sound

@@ -2,6 +2,7 @@ ghost use Rattle.std.specs.Prelude.{◌≡◌, ◌≤◌, ◌<◌, ◌+◌, ◌^
 ghost use Rattle.v_lexer.specs.declared.fault.LexFault.TheVariants.{Memory};
 ghost use Rattle.v_lexer.specs.declared.token.Token.{Token};
 ghost use Rattle.v_lexer.specs.Reading.{AreTokensOf, IsFaultOf, Rise};
+ghost use Rattle.v_lexer.specs.Sound.{AreSound};
 ghost use Rattle.v_lexer.specs.Tokens.{given, fault_at, lines_after, tokens_of, Gives};
 
 use crate::fault::{FaultKind, LexFault};
@@ -110,6 +111,9 @@ pub fn tokens(alloc: Global, text: &[u8]) -> Result<TokenList, LexFault>
     ensures only { (tokens : List Token) → AreTokensOf text.now tokens → Gives (λ tokens. tokens) result (Ok tokens) }
     // Tokens don't overlap.
     ensures rising { IfOk result (λ tokens. Rise 0 tokens) }
+    // Each lies in the text, and its bytes are what its kind says: each based number has its bits,
+    // each number its value. The last is the end of the text, and no other is.
+    ensures sound { IfOk result (λ tokens. AreSound text.now tokens) }
     // The fault is the first, and has its line.
     ensures fault { IfErr result (λ fault. IsFaultOf text.now fault) }
 {
