@@ -1,4 +1,5 @@
 pub mod Lengths
+pub mod Strays
 pub mod Growth
 pub mod Bits
 pub mod Added
