@@ -78,7 +78,7 @@ some_run : (run : ℕ) (b : Bool) → (eqb run 0 || b) ≡ false → 0 < run
 some_run zero b h = absurd (true≢false h)
 some_run (suc run) b h = omega arith
 
-form_with-some : (signed : Bool) (base : Base) (start : ℕ) (bytes : List ℕ) (form : Form) → form_with signed base start bytes ≡ Some form
+pub form_with-some : (signed : Bool) (base : Base) (start : ℕ) (bytes : List ℕ) (form : Form) → form_with signed base start bytes ≡ Some form
     → (0 < literal_run (drop start bytes)) × (form.len ≡ start + literal_run (drop start bytes))
 unfolding form_with
 form_with-some signed base start bytes form is =
@@ -87,15 +87,15 @@ form_with-some signed base start bytes form is =
     let parts : ((eqb run 0 || eqb (first (drop start bytes)) 95) ≡ false) × (whole ≡ form) = if_some (eqb run 0 || eqb (first (drop start bytes)) 95) whole form is in
     (some_run run (eqb (first (drop start bytes)) 95) parts.0, sym (ap (λ (f : Form). f.len) parts.1))
 
-and_then-some : (o : Option Base) (f : Base → Option Form) (form : Form) → and_then o f ≡ Some form → (base : Base) × (o ≡ Some base) × (f base ≡ Some form)
+pub and_then-some : (o : Option Base) (f : Base → Option Form) (form : Form) → and_then o f ≡ Some form → (base : Base) × (o ≡ Some base) × (f base ≡ Some form)
 and_then-some None f form is = absurd (none_some form is)
 and_then-some (Some base) f form is = (base, refl, is)
 
 -- a form by the length of its sign and the bytes from its first on
-formed : ℕ → List ℕ → Option Form
+unfoldable pub formed : ℕ → List ℕ → Option Form
 formed s bytes = and_then (base_of (first (drop (1 + s) bytes))) (form_after (eqb s 1) (1 + s) bytes)
 
-form_at-formed : (bytes : List ℕ) → form_at bytes ≡ formed (signed_len (drop 1 bytes)) bytes
+pub form_at-formed : (bytes : List ℕ) → form_at bytes ≡ formed (signed_len (drop 1 bytes)) bytes
 unfolding form_at formed
 form_at-formed bytes = refl
 

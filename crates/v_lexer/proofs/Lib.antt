@@ -10,3 +10,4 @@ pub mod Pieces
 pub mod Cuts
 pub mod Meanings
 pub mod Sound
+pub mod Reach

@@ -10,3 +10,4 @@ pub mod Tokens
 pub mod Values
 pub mod Reading
 pub mod Sound
+pub mod Forms

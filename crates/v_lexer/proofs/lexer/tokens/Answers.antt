@@ -4,6 +4,7 @@ use Rattle.v_lexer.specs.Tokens.{Lexed, Gives}
 use Rattle.v_lexer.specs.Reading.{AreTokensOf}
 use Rattle.v_lexer.proofs.Pieces.{reads_only, rising_ok}
 use Rattle.v_lexer.proofs.Sound.{sound_ok}
+use Rattle.v_lexer.proofs.Reach.{reaches_longest}
 use Rattle.v_lexer.proofs.lexer.tokens.Goals as goal
 
 pub returns-clause-only : goal.returns-clause-only
@@ -15,3 +16,6 @@ returns-clause-rising c = rising_ok c.args.text.now c.lexed.result c.lexed.ensur
 
 pub returns-clause-sound : goal.returns-clause-sound
 returns-clause-sound c = sound_ok c.args.text.now c.lexed.result c.lexed.ensures.found
+
+pub returns-clause-longest : goal.returns-clause-longest
+returns-clause-longest c = reaches_longest c.args.text.now
