@@ -9,5 +9,6 @@ pub mod Digits
 pub mod Pieces
 pub mod Cuts
 pub mod Meanings
+pub mod Shapes
 pub mod Sound
 pub mod Reach

@@ -333,7 +333,7 @@ plain_says bytes =
     (λ e. literal_with_says None 0 bytes (form_at bytes) refl (plain_reads bytes (eqb-true byte 39 e))) (λ _.
     mark_says bytes)))))))))
 
-endtable_is_reserved : is_reserved (codes "endtable") ≡ true
+pub endtable_is_reserved : is_reserved (codes "endtable") ≡ true
 unfolding is_reserved reserved words_of
 endtable_is_reserved = refl
 

@@ -595,7 +595,7 @@ form_meets kind.Based front others piece some found (inl form) = meets (length f
 form_meets kind.Based front others piece some found (inr form) = meets (length front) (front ++ others) piece found (sized_form front others form)
 form_meets kind.Text front others piece some found form = meets (length front) (front ++ others) piece found (text_form front others form)
 form_meets kind.Directive front others piece some found form = meets (length front) (front ++ others) piece found (directive_form front others form)
-form_meets kind.Symbol front others piece some found form = absurd form
+form_meets kind.Symbol front others piece some found form = let one : length front ≡ 1 = ap length form.all in omega (arith, one, some)
 form_meets kind.Mark front others piece some found form = let one : length front ≡ 1 = ap length form.all in omega (arith, one, some)
 form_meets kind.End front others piece some found form = absurd form
 

@@ -1,4 +1,4 @@
--- The forms of tokens outside tables, each said of all its bytes and without looking at what comes behind. A number may be too large in its form, and a based number have a fault.
+-- The forms of tokens, each said of all its bytes and without looking at what comes behind. A number may be too large in its form, and a based number have a fault.
 use Rattle.std.specs.Prelude.{ℕ, ◌<◌, ◌≤◌, ◌≡◌, ◌⊎◌, ◌||◌, ◌==◌, Bool, not, IsTrue, List, [], ◌∷◌, ◌++◌, length, Option, Some, None}
 use Rattle.std.specs.List.{list_all}
 use Rattle.std.specs.Char.{is_ascii_digit}
@@ -8,6 +8,7 @@ use Rattle.v_lexer.specs.declared.literals.Base.{Base}
 use Rattle.v_lexer.specs.Bytes.{first, is_letter, is_name_byte, is_number_byte, is_literal_byte, is_blank, is_visible}
 use Rattle.v_lexer.specs.Literals.{base_of}
 use Rattle.v_lexer.specs.Words.{is_reserved}
+use Rattle.v_lexer.specs.Places.{is_symbol}
 
 -- one or more digits
 abbrev pub IsDigits : List ℕ → Type 0
@@ -96,6 +97,12 @@ pub record IsMark (bytes : List ℕ) : Type 0 where
   pub visible : IsTrue (is_visible byte)
   pub all : bytes ≡ byte ∷ []
 
+-- one byte that is a symbol of tables
+pub record IsTableByte (bytes : List ℕ) : Type 0 where
+  pub byte : ℕ
+  pub symbol : IsTrue (is_symbol byte)
+  pub all : bytes ≡ byte ∷ []
+
 -- the bytes have the form of a kind
 abbrev pub IsFormOf : TokenKind → List ℕ → Type 0
 IsFormOf kind.Name bytes = (IsWord bytes × IsTrue (not (is_reserved bytes))) ⊎ IsEscaped bytes
@@ -106,7 +113,7 @@ IsFormOf kind.Exponent bytes = IsExponent bytes
 IsFormOf kind.Based bytes = IsUnsized bytes ⊎ IsSized bytes
 IsFormOf kind.Text bytes = IsText bytes
 IsFormOf kind.Directive bytes = IsDirective bytes
-IsFormOf kind.Symbol bytes = ⊥
+IsFormOf kind.Symbol bytes = IsTableByte bytes
 IsFormOf kind.Mark bytes = IsMark bytes
 IsFormOf kind.End bytes = ⊥
 

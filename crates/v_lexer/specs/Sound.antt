@@ -8,6 +8,7 @@ use Rattle.v_lexer.specs.Bytes.{first, is_visible}
 use Rattle.v_lexer.specs.Numbers.{decimal_value}
 use Rattle.v_lexer.specs.Words.{is_reserved}
 use Rattle.v_lexer.specs.Places.{is_symbol}
+use Rattle.v_lexer.specs.Forms.{IsFormOf}
 use Rattle.v_lexer.specs.Reading.{line_of}
 use Rattle.v_lexer.specs.Values.{name_text, width_of, literal_of}
 
@@ -34,6 +35,7 @@ pub record IsSound (text : List ℕ) (token : Token) : Type 0 where
   pub within : token.end ≤ length text
   pub line : token.line ≡ line_of text token.start
   pub some : ¬ (token.kind ≡ kind.End) → token.start < token.end
+  pub form : ¬ (token.kind ≡ kind.End) → IsFormOf token.kind (bytes_of text token)
   pub name : token.kind ≡ kind.Name → IsVisible (name_text (bytes_of text token))
   pub word : token.kind ≡ kind.Word → IsTrue (is_reserved (bytes_of text token))
   pub number : token.kind ≡ kind.Number → decimal_value (bytes_of text token) < 2147483648
