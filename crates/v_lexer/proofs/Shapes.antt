@@ -22,7 +22,7 @@ use Rattle.v_lexer.specs.Numbers.{decimal_value, decimal_len, sign_len, exponent
 use Rattle.v_lexer.specs.Literals.{Form, form_at, form_with, form_after, base_of, signed_len, holds}
 use Rattle.v_lexer.specs.Words.{is_reserved}
 use Rattle.v_lexer.specs.Places.{Found, ended, mark_at, slash_at, open_at, quote_at, escaped_at, directive_at, name_at, literal_with, literal_at, exponent_at, quote_place, whole_at, number_at, plain_at, symbols, is_symbol, is_table_end, row_at, place_at}
-use Rattle.v_lexer.specs.Forms.{IsDigits, IsWord, IsEscaped, IsNumber, IsDecimal, IsExponent, IsUnsized, IsSized, IsInside, IsText, IsDirective, IsMark, IsTableByte, IsFormOf}
+use Rattle.v_lexer.specs.Forms.{IsDigits, IsWord, IsEscaped, IsNumber, IsDecimal, IsExponent, IsUnsized, IsSized, IsInside, IsText, IsDirective, begins_other, IsMark, IsTableByte, IsFormOf}
 use Rattle.v_lexer.proofs.Fronts.{name_run_some, number_run_some}
 use Rattle.v_lexer.proofs.Cuts.{first_cut, formed, form_at-formed, form_with-some, and_then-some}
 use Rattle.v_lexer.proofs.Meanings.{endtable_is_reserved}
@@ -72,12 +72,17 @@ one_byte byte bytes is some = front_is 0 byte bytes is some
 visible_some : (byte : ℕ) → is_visible byte ≡ true → 0 < byte
 visible_some byte is = omega (arith, ltb-true 32 byte (and_parts (nat_lt 32 byte) (nat_lt byte 127) is).0)
 
-mark_takes : (bytes : List ℕ) → is_visible (first bytes) ≡ true → IsMark (take 1 bytes)
-mark_takes bytes visible = record { byte = first bytes; visible = visible; all = one_byte (first bytes) bytes refl (visible_some (first bytes) visible) }
+mark_takes : (bytes : List ℕ) → is_visible (first bytes) ≡ true → not (begins_other (first bytes)) ≡ true → IsMark (take 1 bytes)
+mark_takes bytes visible other =
+    record { byte = first bytes; visible = visible; other = other; all = one_byte (first bytes) bytes refl (visible_some (first bytes) visible) }
 
-mark_found : (bytes : List ℕ) → Takes bytes (mark_at bytes)
+-- at one byte
+mark_is : (byte : ℕ) (bytes : List ℕ) → first bytes ≡ byte → is_visible byte ≡ true → not (begins_other byte) ≡ true → IsMark (take 1 bytes)
+mark_is byte bytes is visible other = mark_takes bytes (ap is_visible is ∙ visible) (ap (λ b. not (begins_other b)) is ∙ other)
+
+mark_found : (bytes : List ℕ) → not (begins_other (first bytes)) ≡ true → Takes bytes (mark_at bytes)
 unfolding mark_at
-mark_found bytes = either bytes (is_visible (first bytes)) (Ok (record { kind = Some kind.Mark; len = 1 })) (Err fault.BadByte) (mark_takes bytes) (λ _. tt)
+mark_found bytes other = either bytes (is_visible (first bytes)) (Ok (record { kind = Some kind.Mark; len = 1 })) (Err fault.BadByte) (λ visible. mark_takes bytes visible other) (λ _. tt)
 
 slash_found : (other : Found) (bytes : List ℕ) → Takes bytes other → Takes bytes (slash_at other bytes)
 unfolding slash_at
@@ -86,11 +91,11 @@ slash_found other bytes takes =
     (λ _. tt)
     (λ _. either bytes (begins 47 42 bytes) (ended None fault.OpenComment (comment_len bytes)) other (λ _. gap_ended bytes fault.OpenComment (comment_len bytes)) (λ _. takes))
 
-open_found : (bytes : List ℕ) → is_visible (first bytes) ≡ true → Takes bytes (open_at bytes)
+open_found : (bytes : List ℕ) → first bytes ≡ 40 → Takes bytes (open_at bytes)
 unfolding open_at
-open_found bytes visible =
+open_found bytes is =
     either bytes (begins 40 42 bytes && not (eqb (first (drop 2 bytes)) 41)) (ended None fault.OpenComment (attribute_len bytes)) (Ok (record { kind = Some kind.Mark; len = 1 }))
-    (λ _. gap_ended bytes fault.OpenComment (attribute_len bytes)) (λ _. mark_takes bytes visible)
+    (λ _. gap_ended bytes fault.OpenComment (attribute_len bytes)) (λ _. mark_is 40 bytes is refl refl)
 
 -- names
 word_takes : (bytes : List ℕ) → is_letter (first bytes) ≡ true → IsWord (take (name_run bytes) bytes)
@@ -410,15 +415,18 @@ plain_found bytes =
     let number : Found = if is_ascii_digit byte then number_at bytes else slash in
     let name : Found = if is_letter byte then name_at bytes else number in
     either bytes (is_blank byte) (Ok (record { kind = None; len = blank_run bytes })) name (λ _. tt) (λ _.
-    either bytes (is_letter byte) (name_at bytes) number (name_found bytes) (λ _.
-    either bytes (is_ascii_digit byte) (number_at bytes) slash (number_found bytes) (λ _.
-    either bytes (eqb byte 47) (slash_at one bytes) opening (λ e. slash_found one bytes (mark_takes bytes (ap is_visible (eqb-true byte 47 e)))) (λ _.
-    either bytes (eqb byte 40) (open_at bytes) quote (λ e. open_found bytes (ap is_visible (eqb-true byte 40 e))) (λ _.
-    either bytes (eqb byte 34) (quote_at bytes) escaped (λ e. quote_found bytes (eqb-true byte 34 e)) (λ _.
-    either bytes (eqb byte 92) (escaped_at bytes) directive (λ e. escaped_found bytes (eqb-true byte 92 e)) (λ _.
-    either bytes (eqb byte 96) (directive_at bytes) literal (λ e. directive_found bytes (eqb-true byte 96 e)) (λ _.
-    either bytes (eqb byte 39) (literal_at None 0 bytes) (mark_at bytes) (λ e. plain_literal bytes (eqb-true byte 39 e)) (λ _.
-    mark_found bytes)))))))))
+    either bytes (is_letter byte) (name_at bytes) number (name_found bytes) (λ no_letter.
+    either bytes (is_ascii_digit byte) (number_at bytes) slash (number_found bytes) (λ no_digit.
+    either bytes (eqb byte 47) (slash_at one bytes) opening (λ e. slash_found one bytes (mark_is 47 bytes (eqb-true byte 47 e) refl refl)) (λ _.
+    either bytes (eqb byte 40) (open_at bytes) quote (λ e. open_found bytes (eqb-true byte 40 e)) (λ _.
+    either bytes (eqb byte 34) (quote_at bytes) escaped (λ e. quote_found bytes (eqb-true byte 34 e)) (λ no_quote.
+    either bytes (eqb byte 92) (escaped_at bytes) directive (λ e. escaped_found bytes (eqb-true byte 92 e)) (λ no_backslash.
+    either bytes (eqb byte 96) (directive_at bytes) literal (λ e. directive_found bytes (eqb-true byte 96 e)) (λ no_backquote.
+    either bytes (eqb byte 39) (literal_at None 0 bytes) (mark_at bytes) (λ e. plain_literal bytes (eqb-true byte 39 e)) (λ no_tick.
+    mark_found bytes (none_of byte no_letter no_digit no_quote no_backslash no_backquote no_tick))))))))))
+  where
+    none_of : (b : ℕ) → is_letter b ≡ false → is_ascii_digit b ≡ false → eqb b 34 ≡ false → eqb b 92 ≡ false → eqb b 96 ≡ false → eqb b 39 ≡ false → not (begins_other b) ≡ true
+    none_of b letter digit quote backslash backquote tick = rw (letter, digit, quote, backslash, backquote, tick) refl
 
 -- inside a table
 symbol_some : (byte : ℕ) → is_symbol byte ≡ true → 0 < byte

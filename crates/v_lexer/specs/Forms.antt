@@ -91,10 +91,15 @@ pub record IsDirective (bytes : List ℕ) : Type 0 where
   pub is_name : IsWord name
   pub all : bytes ≡ 96 ∷ name
 
--- one byte from `!` to `~`
+-- a byte that another form begins with
+abbrev pub begins_other : ℕ → Bool
+begins_other byte = is_letter byte || is_ascii_digit byte || byte == 34 || byte == 92 || byte == 96 || byte == 39
+
+-- one byte from `!` to `~` that begins no other form
 pub record IsMark (bytes : List ℕ) : Type 0 where
   pub byte : ℕ
   pub visible : IsTrue (is_visible byte)
+  pub other : IsTrue (not (begins_other byte))
   pub all : bytes ≡ byte ∷ []
 
 -- one byte that is a symbol of tables
