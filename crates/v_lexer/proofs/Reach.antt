@@ -1,12 +1,12 @@
 -- What is found reaches as far as each form of a token does.
-use Rattle.std.proofs.Common.{◌≡◌, ℕ, zero, suc, ◌+◌, ◌-◌, ◌≤◌, ◌<◌, Bool, true, false, not, ◌&&◌, ◌||◌, eqb, leb, nat_lt, List, [], ◌∷◌, ◌++◌, length, take, drop, if◌then◌else◌, ◌⊎◌, refl, sym, ap, subst, ◌∙◌, arith, inl, inr, append_assoc, length-append}
+use Rattle.std.proofs.Common.{◌≡◌, ℕ, zero, suc, ◌+◌, ◌≤◌, ◌<◌, Bool, true, false, not, ◌&&◌, ◌||◌, eqb, leb, nat_lt, List, [], ◌∷◌, ◌++◌, length, take, drop, if◌then◌else◌, ◌⊎◌, refl, sym, ap, subst, ◌∙◌, arith, inl, inr, append_assoc, length-append}
 use Rattle.std.proofs.lemmas.Bool.{cases_Bool, true≢false, or_cases, or_parts, and_parts, not-true, false_from_ne_true, eqb-true, eq-eqb, ne_eqb, leb-true, ltb-true, ltb-false, lt-ltb}
 use Rattle.std.proofs.lemmas.List.{drop-drop}
 use Rattle.std.proofs.Math.Seq.{drop-append_seam, drop-append-add}
-use Rattle.std.specs.Prelude.{Option, Some, None, Result, Ok, Err}
+use Rattle.std.specs.Prelude.{Option, Some, None, Ok, Err}
 use Rattle.std.specs.List.{prefix_len, list_all}
 use Rattle.std.specs.Int.{is_in_range}
-use Rattle.std.specs.Char.{is_ascii_digit, is_ascii_alphabetic, is_ascii_alphanumeric}
+use Rattle.std.specs.Char.{is_ascii_digit, is_ascii_alphabetic}
 use Rattle.v_lexer.specs.declared.token.TokenKind.{TokenKind}
 use Rattle.v_lexer.specs.declared.token.TokenKind.TheVariants as kind
 use Rattle.v_lexer.specs.declared.token.Piece.{Piece}
@@ -16,11 +16,10 @@ use Rattle.v_lexer.specs.declared.literals.Base.{Base}
 use Rattle.v_lexer.specs.Bytes.{first, plus, is_letter, is_name_byte, is_number_byte, is_literal_byte, is_blank, is_visible, name_run, number_run, digit_run, literal_run, blank_run, visible_run}
 use Rattle.v_lexer.specs.Quoted.{quote_end, text_len}
 use Rattle.v_lexer.specs.Numbers.{decimal_value, decimal_len, sign_len, exponent_len}
-use Rattle.v_lexer.specs.Literals.{Form, form_at, form_with, form_after, base_of, signed_len, holds}
-use Rattle.v_lexer.specs.Words.{is_reserved}
+use Rattle.v_lexer.specs.Literals.{Form, form_at, form_after, base_of, signed_len, holds}
 use Rattle.v_lexer.specs.Places.{Found, ended, quote_at, escaped_at, directive_at, name_at, literal_with, literal_at, exponent_at, quote_place, whole_at, number_at, plain_at, place_at}
 use Rattle.v_lexer.specs.Reading.{Stands}
-use Rattle.v_lexer.specs.Forms.{IsDigits, IsWord, IsEscaped, IsNumber, IsDecimal, IsExponent, IsUnsized, IsSized, IsInside, IsText, IsDirective, IsMark, IsFormOf, IsLongest}
+use Rattle.v_lexer.specs.Forms.{IsDigits, IsWord, IsEscaped, IsNumber, IsDecimal, IsExponent, IsUnsized, IsSized, IsInside, IsText, IsDirective, IsFormOf, IsLongest}
 use Rattle.v_lexer.proofs.Cuts.{formed, form_at-formed, form_with-some, and_then-some}
 
 -- what is found has this many bytes or more

@@ -1,28 +1,27 @@
 -- What is found has the form of its kind.
-use Rattle.std.proofs.Common.{◌≡◌, ℕ, zero, suc, ◌+◌, ◌-◌, ◌≤◌, ◌<◌, Bool, true, false, not, ◌&&◌, ◌||◌, eqb, nat_lt, List, [], ◌∷◌, ◌++◌, length, take, drop, if◌then◌else◌, ◌⊎◌, refl, sym, ap, subst, ◌∙◌, arith, inl, inr}
+use Rattle.std.proofs.Common.{◌≡◌, ℕ, zero, suc, ◌+◌, ◌<◌, Bool, true, false, not, ◌&&◌, ◌||◌, eqb, nat_lt, List, [], ◌∷◌, ◌++◌, take, drop, if◌then◌else◌, ◌⊎◌, refl, sym, ap, subst, ◌∙◌, arith, inl, inr}
 use Rattle.std.proofs.lemmas.Bool.{cases_Bool, true≢false, or_cases, and_parts, not-true, not-false, not_from_false, false_from_ne_true, eqb-true, eqb-false, ltb-true}
 use Rattle.std.proofs.lemmas.List.{drop-drop}
 use Rattle.std.proofs.lemmas.List.Folds.{length-prefix_len}
 use Rattle.std.proofs.lemmas.Slice.Eq.{bytes_eq-Decides}
 use Rattle.std.proofs.Math.Seq.{take-add}
-use Rattle.std.specs.Prelude.{Option, Some, None, Result, Ok, Err, codes}
+use Rattle.std.specs.Prelude.{Option, Some, None, Ok, Err, codes}
 use Rattle.std.specs.List.{prefix_len, list_all}
 use Rattle.std.specs.Char.{is_ascii_digit}
 use Rattle.name_table.specs.Names.{same_name}
 use Rattle.v_lexer.specs.declared.token.TokenKind.{TokenKind}
 use Rattle.v_lexer.specs.declared.token.TokenKind.TheVariants as kind
-use Rattle.v_lexer.specs.declared.token.Piece.{Piece}
 use Rattle.v_lexer.specs.declared.fault.FaultKind.{FaultKind}
 use Rattle.v_lexer.specs.declared.fault.FaultKind.TheVariants as fault
 use Rattle.v_lexer.specs.declared.literals.Base.{Base}
 use Rattle.v_lexer.specs.Bytes.{first, begins, plus, is_letter, is_name_byte, is_number_byte, is_literal_byte, is_blank, is_visible, name_run, number_run, digit_run, literal_run, blank_run, visible_run, line_run}
-use Rattle.v_lexer.specs.Quoted.{quote_end, text_len}
+use Rattle.v_lexer.specs.Quoted.{quote_end}
 use Rattle.v_lexer.specs.Gaps.{comment_len, attribute_len}
 use Rattle.v_lexer.specs.Numbers.{decimal_value, decimal_len, sign_len, exponent_head, exponent_len}
 use Rattle.v_lexer.specs.Literals.{Form, form_at, form_with, form_after, base_of, signed_len, holds}
 use Rattle.v_lexer.specs.Words.{is_reserved}
 use Rattle.v_lexer.specs.Places.{Found, ended, mark_at, slash_at, open_at, quote_at, escaped_at, directive_at, name_at, literal_with, literal_at, exponent_at, quote_place, whole_at, number_at, plain_at, symbols, is_symbol, is_table_end, row_at, place_at}
-use Rattle.v_lexer.specs.Forms.{IsDigits, IsWord, IsEscaped, IsNumber, IsDecimal, IsExponent, IsUnsized, IsSized, IsInside, IsText, IsDirective, begins_other, IsMark, IsTableByte, IsFormOf}
+use Rattle.v_lexer.specs.Forms.{IsDigits, IsWord, IsNumber, IsDecimal, IsExponent, IsUnsized, IsSized, IsInside, IsText, begins_other, IsMark, IsTableByte, IsFormOf}
 use Rattle.v_lexer.proofs.Fronts.{name_run_some, number_run_some}
 use Rattle.v_lexer.proofs.Cuts.{first_cut, formed, form_at-formed, form_with-some, and_then-some}
 use Rattle.v_lexer.proofs.Meanings.{endtable_is_reserved}

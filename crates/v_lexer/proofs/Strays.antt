@@ -1,10 +1,10 @@
 -- A `"` that begins no text in quotes: neither does one after it on its line.
-use Rattle.std.proofs.Common.{◌≡◌, ℕ, zero, suc, ◌+◌, ◌-◌, ◌≤◌, ◌<◌, Bool, true, false, not, ◌&&◌, ◌||◌, eqb, List, [], ◌∷◌, length, drop, if◌then◌else◌, refl, sym, ap, ◌∙◌, arith, inl, inr}
+use Rattle.std.proofs.Common.{◌≡◌, ℕ, zero, suc, ◌+◌, ◌-◌, ◌<◌, Bool, true, false, not, ◌&&◌, ◌||◌, eqb, List, [], ◌∷◌, drop, if◌then◌else◌, refl, sym, ap, ◌∙◌, arith, inl, inr}
 use Rattle.std.proofs.lemmas.Bool.{cases_Bool, true≢false, and_parts, not-true, eqb-true}
 use Rattle.std.specs.Prelude.{Option, Some, None}
 use Rattle.std.specs.Option.{option_map_or}
 use Rattle.v_lexer.specs.Bytes.{first, plus}
-use Rattle.v_lexer.specs.Quoted.{quote_end, text_len}
+use Rattle.v_lexer.specs.Quoted.{quote_end}
 use Rattle.v_lexer.specs.Gaps.{quoted_after}
 
 -- no text in quotes that began before ends on the line
