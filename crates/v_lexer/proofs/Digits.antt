@@ -1,11 +1,11 @@
 -- Bits of digits one after the other, as loops make them.
-use Rattle.std.proofs.Common.{◌≡◌, rules, leb, ◌&&◌, ◌||◌, inl, inr, ℕ, zero, suc, ◌+◌, ◌-◌, ◌*◌, ◌/◌, ◌%◌, ◌^◌, ◌<◌, ◌≤◌, Bool, true, false, eqb, if◌then◌else◌, List, [], ◌∷◌, ◌++◌, length, drop, refl, sym, ap, ◌∙◌, arith, append_assoc, append-nil}
+use Rattle.std.proofs.Common.{◌≡◌, rules, leb, ◌&&◌, ◌||◌, inl, inr, ℕ, suc, ◌+◌, ◌-◌, ◌/◌, ◌%◌, ◌^◌, ◌<◌, ◌≤◌, Bool, true, false, eqb, if◌then◌else◌, List, [], ◌∷◌, ◌++◌, length, drop, refl, sym, ap, ◌∙◌, arith, append_assoc, append-nil}
 use Rattle.std.proofs.lemmas.Bool.{true≢false, or_cases}
 use Rattle.std.specs.Prelude.{Option, Some, None}
 use Rattle.v_lexer.specs.declared.literals.Base.{Base}
 use Rattle.v_lexer.specs.declared.literals.Base.TheVariants.{Decimal}
 use Rattle.v_lexer.specs.declared.literals.Bit.{Bit}
-use Rattle.v_lexer.specs.declared.literals.Bit.TheVariants.{Zero, One, X, Z}
+use Rattle.v_lexer.specs.declared.literals.Bit.TheVariants.{Zero, One}
 use Rattle.v_lexer.specs.Bytes.{first}
 use Rattle.v_lexer.specs.Numbers.{decimal_value}
 use Rattle.v_lexer.specs.Literals.{Form, digit_bits, bits_of, binary, size_holds, digits_hold, value_holds, holds, is_single}

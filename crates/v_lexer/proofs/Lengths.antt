@@ -1,10 +1,8 @@
 -- Lengths with bytes before them.
-use Rattle.std.proofs.Common.{◌≡◌, ℕ, zero, suc, ◌+◌, ◌-◌, ◌≤◌, ◌<◌, Bool, true, false, not, ◌&&◌, List, [], ◌∷◌, length, drop, refl, sym, ap, ◌∙◌, arith, eqb, if◌then◌else◌}
+use Rattle.std.proofs.Common.{◌≡◌, ℕ, zero, suc, ◌+◌, ◌<◌, false, List, [], ◌∷◌, length, drop, refl, sym, ap, ◌∙◌, arith}
 use Rattle.std.specs.Prelude.{Option, Some, None}
-use Rattle.std.specs.Option.{option_map_or}
-use Rattle.v_lexer.specs.Bytes.{first, begins, plus}
-use Rattle.v_lexer.specs.Quoted.{quote_end, text_len}
-use Rattle.v_lexer.specs.Gaps.{comment_end, quoted_after, attribute_end}
+use Rattle.v_lexer.specs.Bytes.{begins, plus}
+use Rattle.v_lexer.specs.Gaps.{quoted_after, attribute_end}
 
 pub plus_none : (n : ℕ) (len : Option ℕ) → len ≡ None → plus n len ≡ None
 plus_none n len e = ap (plus n) e

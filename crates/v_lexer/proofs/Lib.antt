@@ -1,4 +1,5 @@
 pub mod Lengths
+pub mod Strays
 pub mod Growth
 pub mod Bits
 pub mod Added
@@ -6,3 +7,8 @@ pub mod Fronts
 pub mod Whole
 pub mod Digits
 pub mod Pieces
+pub mod Cuts
+pub mod Meanings
+pub mod Shapes
+pub mod Sound
+pub mod Reach

@@ -9,3 +9,5 @@ pub mod Places
 pub mod Tokens
 pub mod Values
 pub mod Reading
+pub mod Sound
+pub mod Forms

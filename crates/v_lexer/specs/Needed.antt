@@ -1,7 +1,7 @@
 -- How many bits are needed, counted from the left.
 use Rattle.std.specs.Prelude.{ℕ, ◌+◌, ◌==◌, List, [], ◌∷◌, if◌then◌else◌}
 use Rattle.v_lexer.specs.declared.literals.Bit.{Bit}
-use Rattle.v_lexer.specs.declared.literals.Bit.TheVariants.{Zero, One, X, Z}
+use Rattle.v_lexer.specs.declared.literals.Bit.TheVariants.{Zero}
 
 -- one more bit than so many: a zero before all others isn't needed
 abbrev pub needed_with : ℕ → Bit → ℕ

@@ -1,5 +1,5 @@
 -- Numbers, decimals and exponents: their lengths, and the value of digits.
-use Rattle.std.specs.Prelude.{ℕ, ◌+◌, ◌*◌, ◌-◌, Bool, ◌&&◌, ◌||◌, ◌==◌, nat_lt, List, [], ◌∷◌, drop, if◌then◌else◌}
+use Rattle.std.specs.Prelude.{ℕ, ◌+◌, ◌*◌, ◌-◌, ◌&&◌, ◌||◌, ◌==◌, nat_lt, List, [], ◌∷◌, drop, if◌then◌else◌}
 use Rattle.v_lexer.specs.Bytes.{first, digit_run}
 
 -- a value with one more decimal digit behind it: `_` is passed over

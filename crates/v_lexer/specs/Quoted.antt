@@ -1,5 +1,5 @@
 -- Texts in quotes.
-use Rattle.std.specs.Prelude.{ℕ, Bool, not, ◌&&◌, ◌==◌, List, [], ◌∷◌, drop, Option, Some, None, if◌then◌else◌}
+use Rattle.std.specs.Prelude.{ℕ, not, ◌&&◌, ◌==◌, List, [], ◌∷◌, drop, Option, Some, None, if◌then◌else◌}
 use Rattle.v_lexer.specs.Bytes.{plus}
 
 -- the length up to the first `"` that has no `\` before it, where no line feed comes first

@@ -3,7 +3,6 @@ use Rattle.std.specs.Prelude.{ℕ, zero, suc, ◌+◌, ◌-◌, Bool, false, ◌
 use Rattle.v_lexer.specs.declared.token.TokenKind.{TokenKind}
 use Rattle.v_lexer.specs.declared.token.TokenKind.TheVariants.{End}
 use Rattle.v_lexer.specs.declared.token.Token.{Token}
-use Rattle.v_lexer.specs.declared.token.Piece.{Piece}
 use Rattle.v_lexer.specs.declared.fault.FaultKind.{FaultKind}
 use Rattle.v_lexer.specs.declared.fault.FaultKind.TheVariants as kind
 use Rattle.v_lexer.specs.declared.fault.LexFault.{LexFault}

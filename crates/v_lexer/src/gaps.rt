@@ -1,4 +1,4 @@
-ghost use Rattle.std.specs.Prelude.{◌≡◌, ◌≤◌, ◌<◌, ◌+◌, length, IfSome};
+ghost use Rattle.std.specs.Prelude.{◌≡◌, ◌≤◌, ◌<◌, ◌+◌, ◌==◌, ◌&&◌, ◌||◌, not, if◌then◌else◌, length, IfSome};
 ghost use Rattle.v_lexer.specs.Gaps.{comment_end, comment_len, quoted_after, attribute_end, attribute_len};
 
 use crate::bytes::{after, begins, first};
@@ -51,7 +51,26 @@ fn quoted_after(text: &[u8]) -> usize
     }
 }
 
+/// How many bytes after the first are passed over: those of a text in quotes, where a `"` may still begin one.
+fn passed(stray: bool, text: &[u8]) -> usize
+    requires { 0 < length text.now }
+    ensures len { result ≡ (if stray then 0 else quoted_after text.now) }
+    ensures within { result + 1 ≤ length text.now }
+{
+    if stray { 0 } else { quoted_after(text) }
+}
+
+/// Whether no `"` behind a byte can begin a text on its line: one that came before began none.
+fn stays_stray(stray: bool, byte: u8, passed: usize) -> bool
+    ensures { result ≡ (not (byte == 10) && (stray || (byte == 34 && passed == 0))) }
+{
+    byte != b'\n' && (stray || (byte == b'"' && passed == 0))
+}
+
 /// The length up to the first `*)` outside a text in quotes, with it.
+///
+/// Where a `"` begins no text, since none ends on its line, neither does a later one there. So each
+/// line is looked through at most twice.
 #[tactic(auto, using(crate::proofs::Lengths::lengths), unfolding(crate::specs::Gaps::attribute_end))]
 fn attribute_end(text: &[u8]) -> Option<usize>
     ensures len { result ≡ attribute_end 0 text.now }
@@ -59,13 +78,15 @@ fn attribute_end(text: &[u8]) -> Option<usize>
 {
     let mut len: usize = 0;
     let mut rest = text;
+    let mut stray = false;
     while !rest.is_empty() {
         if begins(rest, b'*', b')') {
             return Some(len + 2);
         }
-        let step = 1 + quoted_after(rest);
-        len += step;
-        rest = after(rest, step);
+        let inside = passed(stray, rest);
+        stray = stays_stray(stray, first(rest), inside);
+        len += 1 + inside;
+        rest = after(rest, 1 + inside);
     }
     None
 }

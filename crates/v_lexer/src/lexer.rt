@@ -1,7 +1,10 @@
-ghost use Rattle.std.specs.Prelude.{◌≡◌, ◌≤◌, ◌<◌, ◌+◌, ◌^◌, ◌++◌, List, length, Ok, OnOk, IfOk, IfErr};
+ghost use Rattle.std.specs.Prelude.{ℕ, false, drop, ◌≡◌, ◌≤◌, ◌<◌, ◌+◌, ◌^◌, ◌++◌, List, length, Ok, OnOk, IfOk, IfErr};
 ghost use Rattle.v_lexer.specs.declared.fault.LexFault.TheVariants.{Memory};
 ghost use Rattle.v_lexer.specs.declared.token.Token.{Token};
-ghost use Rattle.v_lexer.specs.Reading.{AreTokensOf, IsFaultOf, Rise};
+ghost use Rattle.v_lexer.specs.declared.token.Piece.{Piece};
+ghost use Rattle.v_lexer.specs.Reading.{Stands, AreTokensOf, IsFaultOf, Rise};
+ghost use Rattle.v_lexer.specs.Forms.{IsLongest};
+ghost use Rattle.v_lexer.specs.Sound.{AreSound};
 ghost use Rattle.v_lexer.specs.Tokens.{given, fault_at, lines_after, tokens_of, Gives};
 
 use crate::fault::{FaultKind, LexFault};
@@ -110,6 +113,11 @@ pub fn tokens(alloc: Global, text: &[u8]) -> Result<TokenList, LexFault>
     ensures only { (tokens : List Token) → AreTokensOf text.now tokens → Gives (λ tokens. tokens) result (Ok tokens) }
     // Tokens don't overlap.
     ensures rising { IfOk result (λ tokens. Rise 0 tokens) }
+    // Each lies in the text, and its bytes are what its kind says: each based number has its bits,
+    // each number its value. The last is the end of the text, and no other is.
+    ensures sound { IfOk result (λ tokens. AreSound text.now tokens) }
+    // Outside tables no longer form of a token stands at the place of one, or of a gap.
+    ensures longest { (at : ℕ) (piece : Piece) → Stands text.now false at piece → IsLongest (drop at text.now) piece.len }
     // The fault is the first, and has its line.
     ensures fault { IfErr result (λ fault. IsFaultOf text.now fault) }
 {

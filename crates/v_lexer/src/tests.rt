@@ -167,6 +167,9 @@ a//^0 => N1:a .1:
 (*"*)" => open comment in line 1
 (*"*)a => N1:a .1:
 (*"" "\"*)a => N1:a .1:
+(* " \" ^n "*)" *)b => N2:b .2:
+(* " ^n"*)b" *)c => N2:c .2:
+(* "a" " *)" *)b => N1:b .1:
 table 01xX?bBrRfFpPnN*-():; endtable => K1:table S1:0 S1:1 S1:x S1:X S1:? S1:b S1:B S1:r S1:R S1:f S1:F S1:p S1:P S1:n S1:N S1:* S1:- S1:( S1:) S1:: S1:; K1:endtable .1:
 table//x^n0 endtable => K1:table S2:0 K2:endtable .2:
 table/*0*/1endtable a => K1:table S1:1 K1:endtable N1:a .1:
@@ -382,5 +385,19 @@ fn names_and_numbers_mean_their_bytes_and_values(rt: HostRuntime) -> Result<(), 
     assert_eq!(rt; number_value(b"1_0"), Some(10));
     assert_eq!(rt; number_value(b"2147483647"), Some(2147483647));
     assert_eq!(rt; number_value(b"2147483648"), None);
+    Ok(())
+}
+
+#[test]
+fn quotes_that_begin_no_text_are_not_looked_behind_again(rt: HostRuntime) -> Result<(), Fail> {
+    let mut text = Vec::from_slice(rt.alloc(), b"(*")?;
+    for _ in 0..400000 {
+        text.extend_from_slice(b"\\\"")?;
+    }
+    text.extend_from_slice(b"*)a")?;
+    if text.len() <= 67108864 {
+        let list = tokens(rt.alloc(), &text).map_err(|_| "no tokens")?;
+        assert_eq!(rt; list.as_slice().len(), 2);
+    }
     Ok(())
 }

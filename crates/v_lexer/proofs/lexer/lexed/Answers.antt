@@ -1,8 +1,6 @@
-use Rattle.std.proofs.Common.{rules, ◌≡◌, ◌<◌, ◌≤◌, ◌+◌, List, [], ◌∷◌, ◌++◌, length, drop, arith, refl, sym, ap, ◌∙◌}
-use Rattle.v_lexer.specs.declared.fault.LexFault.{LexFault}
-use Rattle.v_lexer.specs.Places.{place_at}
-use Rattle.v_lexer.specs.Tokens.{tokens_of, onto, tokens_from, fault_at, end_at}
-use Rattle.v_lexer.specs.Reading.{Stands, IsFaultOf, AreTokensOf}
+use Rattle.std.proofs.Common.{rules, ◌≡◌, ◌<◌, length, arith, refl, sym, ◌∙◌}
+use Rattle.v_lexer.specs.Tokens.{tokens_of}
+use Rattle.v_lexer.specs.Reading.{Stands}
 use Rattle.v_lexer.proofs.Whole.{tokens_go_on, tokens_fail, tokens_end, onto_none}
 use Rattle.v_lexer.proofs.Pieces.{stands_at, completes_start, completes_more, carries_more, line_start, line_goes_on, rest_goes_on, completes_end, carries_fault}
 use Rattle.v_lexer.proofs.lexer.lexed.Goals as goal

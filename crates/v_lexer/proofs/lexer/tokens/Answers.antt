@@ -1,9 +1,10 @@
-use Rattle.std.proofs.Common.{rules, ◌≡◌, List, sym, subst}
-use Rattle.std.specs.Prelude.{Ok}
+use Rattle.std.proofs.Common.{List, subst}
 use Rattle.v_lexer.specs.declared.token.Token.{Token}
 use Rattle.v_lexer.specs.Tokens.{Lexed, Gives}
 use Rattle.v_lexer.specs.Reading.{AreTokensOf}
-use Rattle.v_lexer.proofs.Pieces.{reads_only, are_rising, rising_ok}
+use Rattle.v_lexer.proofs.Pieces.{reads_only, rising_ok}
+use Rattle.v_lexer.proofs.Sound.{sound_ok}
+use Rattle.v_lexer.proofs.Reach.{reaches_longest}
 use Rattle.v_lexer.proofs.lexer.tokens.Goals as goal
 
 pub returns-clause-only : goal.returns-clause-only
@@ -12,3 +13,9 @@ returns-clause-only c = λ (tokens : List Token) (are : AreTokensOf c.args.text.
 
 pub returns-clause-rising : goal.returns-clause-rising
 returns-clause-rising c = rising_ok c.args.text.now c.lexed.result c.lexed.ensures.found
+
+pub returns-clause-sound : goal.returns-clause-sound
+returns-clause-sound c = sound_ok c.args.text.now c.lexed.result c.lexed.ensures.found
+
+pub returns-clause-longest : goal.returns-clause-longest
+returns-clause-longest c = reaches_longest c.args.text.now

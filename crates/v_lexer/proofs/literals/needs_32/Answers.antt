@@ -1,4 +1,4 @@
-use Rattle.std.proofs.Common.{rules, ◌<◌, ◌≤◌, length, drop, refl, arith}
+use Rattle.std.proofs.Common.{rules, ◌<◌, length, drop, refl, arith}
 use Rattle.v_lexer.specs.Literals.{bits_of, needed}
 use Rattle.v_lexer.proofs.Bits.{needed_goes_on, too_many_bits}
 use Rattle.v_lexer.proofs.literals.needs_32.Goals as goal

@@ -1,4 +1,4 @@
-use Rattle.std.proofs.Common.{rules, ◌≡◌, ◌<◌, ◌-◌, ◌++◌, ◌∷◌, [], arith, ap, ◌∙◌}
+use Rattle.std.proofs.Common.{◌-◌, ◌++◌, ◌∷◌, [], arith, ap, ◌∙◌}
 use Rattle.v_lexer.specs.Literals.{binary}
 use Rattle.v_lexer.proofs.Digits.{binary_go_on, binary_done}
 use Rattle.v_lexer.proofs.values.binary.Goals as goal

@@ -1,6 +1,5 @@
-use Rattle.std.proofs.Common.{rules, ◌≡◌, ◌≤◌, true, sym, ap, ◌∙◌, arith}
-use Rattle.v_lexer.specs.Literals.{form_view, holds}
-use Rattle.v_lexer.specs.Values.{width_of}
+use Rattle.std.proofs.Common.{arith}
+use Rattle.v_lexer.specs.Literals.{form_view}
 use Rattle.v_lexer.proofs.Digits.{holds_within, holds_small}
 use Rattle.v_lexer.proofs.values.bits_in.Goals as goal
 

@@ -1,0 +1,362 @@
+-- What is found at a place has the meaning that its kind says.
+use Rattle.std.proofs.Common.{◌≡◌, ℕ, get_or, zero, suc, ◌+◌, ◌-◌, ◌≤◌, ◌<◌, Bool, true, false, not, ◌&&◌, ◌||◌, eqb, leb, List, [], ◌∷◌, length, take, drop, replicate, if◌then◌else◌, refl, sym, ap, subst, ◌∙◌, arith, inl, inr, length-append, length-drop}
+use Rattle.std.proofs.lemmas.Bool.{cases_Bool, true≢false, or_cases, and_parts, not-false, false_from_ne_true, eqb-true, leb-true, ltb-true, ltb-false}
+use Rattle.std.proofs.lemmas.List.{drop-take, length-replicate, get_or-take}
+use Rattle.std.proofs.lemmas.List.Folds.{length-prefix_len}
+use Rattle.std.proofs.lemmas.List.Sums.{prefix_len_passes}
+use Rattle.std.proofs.lemmas.Slice.Eq.{bytes_eq-Decides}
+use Rattle.std.specs.Prelude.{Option, Some, None, Ok, Err, codes, nat_lt}
+use Rattle.std.specs.List.{prefix_len}
+use Rattle.std.specs.Int.{is_in_range}
+use Rattle.std.specs.Char.{is_ascii_digit, is_ascii_alphanumeric}
+use Rattle.name_table.specs.Names.{same_name}
+use Rattle.v_lexer.specs.declared.token.TokenKind.{TokenKind}
+use Rattle.v_lexer.specs.declared.token.TokenKind.TheVariants as kind
+use Rattle.v_lexer.specs.declared.fault.FaultKind.{FaultKind}
+use Rattle.v_lexer.specs.declared.fault.FaultKind.TheVariants as fault
+use Rattle.v_lexer.specs.declared.literals.Base.{Base}
+use Rattle.v_lexer.specs.declared.literals.Base.TheVariants.{Binary, Octal, Decimal, Hexadecimal}
+use Rattle.v_lexer.specs.declared.literals.Bit.{Bit}
+use Rattle.v_lexer.specs.declared.values.Literal.{Literal}
+use Rattle.v_lexer.specs.Bytes.{first, begins, is_letter, is_name_byte, is_number_byte, is_blank, is_visible, name_run, number_run, blank_run, visible_run, line_run}
+use Rattle.v_lexer.specs.Quoted.{text_len}
+use Rattle.v_lexer.specs.Gaps.{comment_len, attribute_len}
+use Rattle.v_lexer.specs.Numbers.{decimal_value, decimal_len, exponent_len}
+use Rattle.v_lexer.specs.Literals.{Form, form_at, holds, size_holds, digits_hold, value_holds, filler, fit, binary, bits_of, bits_in, is_single, bit_at}
+use Rattle.v_lexer.specs.Words.{is_reserved, reserved, words_of}
+use Rattle.v_lexer.specs.Places.{Found, ended, mark_at, slash_at, open_at, quote_at, escaped_at, directive_at, name_at, literal_with, literal_at, exponent_at, quote_place, whole_at, number_at, plain_at, is_symbol, is_table_end, row_at, place_at}
+use Rattle.v_lexer.specs.Values.{name_text, width_of, meaning, literal_of}
+use Rattle.v_lexer.specs.Sound.{IsVisible, HasBits}
+use Rattle.v_lexer.proofs.Digits.{holds_within}
+use Rattle.v_lexer.proofs.Fronts.{name_run_some, number_run_some}
+use Rattle.v_lexer.proofs.Cuts.{run_cut, first_cut, take_cut, form_cut}
+
+-- what a kind says of the bytes of a token, which are as many as the length
+abbrev pub Meant : Option TokenKind → ℕ → List ℕ → Type 0
+Meant None len bytes = Unit {0}
+Meant (Some kind.Name) len bytes = IsVisible (name_text bytes)
+Meant (Some kind.Word) len bytes = is_reserved bytes ≡ true
+Meant (Some kind.Number) len bytes = decimal_value bytes < 2147483648
+Meant (Some kind.Based) len bytes = HasBits bytes
+Meant (Some kind.Symbol) len bytes = (len ≡ 1) × (is_symbol (first bytes) ≡ true)
+Meant (Some kind.Mark) len bytes = (len ≡ 1) × (is_visible (first bytes) ≡ true)
+Meant (Some kind.End) len bytes = ⊥
+Meant (Some other) len bytes = Unit {0}
+
+-- what is found has its meaning
+abbrev pub Says : List ℕ → Found → Type 0
+Says bytes (Ok piece) = Meant piece.kind piece.len (take piece.len bytes)
+Says bytes (Err wrong) = Unit {0}
+
+either : (bytes : List ℕ) (b : Bool) (x y : Found) → (b ≡ true → Says bytes x) → (b ≡ false → Says bytes y) → Says bytes (if b then x else y)
+either bytes true x y f g = f refl
+either bytes false x y f g = g refl
+
+gap_ended : (bytes : List ℕ) (wrong : FaultKind) (len : Option ℕ) → Says bytes (ended None wrong len)
+gap_ended bytes wrong None = tt
+gap_ended bytes wrong (Some len) = tt
+
+text_ended : (bytes : List ℕ) (wrong : FaultKind) (len : Option ℕ) → Says bytes (ended (Some kind.Text) wrong len)
+text_ended bytes wrong None = tt
+text_ended bytes wrong (Some len) = tt
+
+mark_says : (bytes : List ℕ) → Says bytes (mark_at bytes)
+unfolding mark_at
+mark_says bytes = either bytes (is_visible (first bytes)) (Ok (record { kind = Some kind.Mark; len = 1 })) (Err fault.BadByte)
+    (λ h. (refl, ap is_visible (first_cut 0 1 bytes (omega arith)) ∙ h)) (λ _. tt)
+
+slash_says : (other : Found) (bytes : List ℕ) → Says bytes other → Says bytes (slash_at other bytes)
+unfolding slash_at
+slash_says other bytes says =
+    either bytes (begins 47 47 bytes) (Ok (record { kind = None; len = line_run bytes })) (if begins 47 42 bytes then ended None fault.OpenComment (comment_len bytes) else other)
+    (λ _. tt)
+    (λ _. either bytes (begins 47 42 bytes) (ended None fault.OpenComment (comment_len bytes)) other (λ _. gap_ended bytes fault.OpenComment (comment_len bytes)) (λ _. says))
+
+one_mark : (bytes : List ℕ) (byte : ℕ) → first bytes ≡ byte → is_visible byte ≡ true → Says bytes (Ok (record { kind = Some kind.Mark; len = 1 }))
+one_mark bytes byte is visible = (refl, ap is_visible (first_cut 0 1 bytes (omega arith) ∙ is) ∙ visible)
+
+open_says : (bytes : List ℕ) → first bytes ≡ 40 → Says bytes (open_at bytes)
+unfolding open_at
+open_says bytes is =
+    either bytes (begins 40 42 bytes && not (eqb (first (drop 2 bytes)) 41)) (ended None fault.OpenComment (attribute_len bytes)) (Ok (record { kind = Some kind.Mark; len = 1 }))
+    (λ _. gap_ended bytes fault.OpenComment (attribute_len bytes))
+    (λ _. one_mark bytes 40 is refl)
+
+quote_says : (bytes : List ℕ) → Says bytes (quote_at bytes)
+unfolding quote_at
+quote_says bytes = text_ended bytes fault.OpenString (text_len bytes)
+
+-- a run of visible bytes
+run_visible : (p : ℕ → Bool) (bytes : List ℕ) → ((byte : ℕ) → p byte ≡ true → (33 ≤ byte) × (byte ≤ 126)) → 0 < prefix_len p bytes → IsVisible (take (prefix_len p bytes) bytes)
+run_visible p bytes visible some = record {
+  some = omega (arith, length-prefix_len p bytes);
+  visible = λ k d less.
+      let within : k < prefix_len p bytes = omega (arith, length-prefix_len p bytes) in
+      let P : ℕ → Type 0 = λ byte. (33 ≤ byte) × (byte ≤ 126) in
+      subst P (sym (get_or-take (prefix_len p bytes) bytes k d within)) (visible (get_or bytes k d) (prefix_len_passes p bytes k d within));
+}
+
+visible_bytes : (byte : ℕ) → is_visible byte ≡ true → (33 ≤ byte) × (byte ≤ 126)
+visible_bytes byte is =
+    let parts : (nat_lt 32 byte ≡ true) × (nat_lt byte 127 ≡ true) = and_parts (nat_lt 32 byte) (nat_lt byte 127) is in
+    (omega (arith, ltb-true 32 byte parts.0), omega (arith, ltb-true byte 127 parts.1))
+
+range_bytes : (low high byte : ℕ) → 33 ≤ low → high ≤ 126 → is_in_range low high byte ≡ true → (33 ≤ byte) × (byte ≤ 126)
+range_bytes low high byte more less is =
+    let parts : (leb low byte ≡ true) × (leb byte high ≡ true) = and_parts (leb low byte) (leb byte high) is in
+    (omega (arith, leb-true low byte parts.0, more), omega (arith, leb-true byte high parts.1, less))
+
+equal_bytes : (byte n : ℕ) → 33 ≤ n → n ≤ 126 → eqb byte n ≡ true → (33 ≤ byte) × (byte ≤ 126)
+equal_bytes byte n more less is = (omega (arith, eqb-true byte n is, more), omega (arith, eqb-true byte n is, less))
+
+name_bytes : (byte : ℕ) → is_name_byte byte ≡ true → (33 ≤ byte) × (byte ≤ 126)
+name_bytes byte is =
+    elim (or_cases (is_ascii_alphanumeric byte || eqb byte 95) (eqb byte 36) is) [
+      | inr dollar ↦ equal_bytes byte 36 (omega arith) (omega arith) dollar
+      | inl rest ↦ elim (or_cases (is_ascii_alphanumeric byte) (eqb byte 95) rest) [
+        | inr line ↦ equal_bytes byte 95 (omega arith) (omega arith) line
+        | inl letters ↦ elim (or_cases (is_in_range 48 57 byte || is_in_range 65 90 byte) (is_in_range 97 122 byte) letters) [
+          | inr small ↦ range_bytes 97 122 byte (omega arith) (omega arith) small
+          | inl others ↦ elim (or_cases (is_in_range 48 57 byte) (is_in_range 65 90 byte) others) [
+            | inl digit ↦ range_bytes 48 57 byte (omega arith) (omega arith) digit
+            | inr capital ↦ range_bytes 65 90 byte (omega arith) (omega arith) capital
+          ]
+        ]
+      ]
+    ]
+
+plain_text : (bytes : List ℕ) → eqb (first bytes) 92 ≡ false → name_text bytes ≡ bytes
+plain_text bytes other = rw other refl
+
+escaped_text : (bytes : List ℕ) → first bytes ≡ 92 → name_text bytes ≡ drop 1 bytes
+escaped_text bytes is = rw is refl
+
+escaped_says : (bytes : List ℕ) → first bytes ≡ 92 → Says bytes (escaped_at bytes)
+unfolding escaped_at
+escaped_says bytes is =
+    let run : ℕ = visible_run (drop 1 bytes) in
+    either bytes (nat_lt 0 run) (Ok (record { kind = Some kind.Name; len = 1 + run })) (Err fault.BadByte)
+    (λ h.
+    let some : 0 < run = ltb-true 0 run h in
+    let less : 0 < 1 + run = omega arith in
+    let text : name_text (take (1 + run) bytes) ≡ take run (drop 1 bytes) = escaped_text (take (1 + run) bytes) (first_cut 0 (1 + run) bytes less ∙ is) ∙ drop-take 1 run bytes in
+    subst (λ (bs : List ℕ). IsVisible bs) (sym text) (run_visible is_visible (drop 1 bytes) visible_bytes some))
+    (λ _. tt)
+
+directive_says : (bytes : List ℕ) → Says bytes (directive_at bytes)
+unfolding directive_at
+directive_says bytes = either bytes (is_letter (first (drop 1 bytes))) (Ok (record { kind = Some kind.Directive; len = 1 + name_run (drop 1 bytes) })) (Err fault.BadByte) (λ _. tt) (λ _. tt)
+
+word_or_name : (b : Bool) (len : ℕ) (bytes : List ℕ) → (b ≡ true → is_reserved bytes ≡ true) → (b ≡ false → IsVisible (name_text bytes)) → Meant (Some (if b then kind.Word else kind.Name)) len bytes
+word_or_name true len bytes word name = word refl
+word_or_name false len bytes word name = name refl
+
+no_backslash : (byte : ℕ) → is_letter byte ≡ true → eqb byte 92 ≡ false
+no_backslash byte letter = false_from_ne_true (eqb byte 92) (λ e. true≢false (sym (ap is_letter (sym (eqb-true byte 92 e)) ∙ letter)))
+
+name_says : (bytes : List ℕ) → is_letter (first bytes) ≡ true → Says bytes (name_at bytes)
+unfolding name_at
+name_says bytes letter =
+    let run : ℕ = name_run bytes in
+    let some : 0 < run = name_run_some bytes letter in
+    let other : eqb (first (take run bytes)) 92 ≡ false = ap (λ byte. eqb byte 92) (first_cut 0 run bytes some) ∙ no_backslash (first bytes) letter in
+    word_or_name (is_reserved (take run bytes)) run (take run bytes) (λ word. word)
+    (λ _. subst (λ (bs : List ℕ). IsVisible bs) (sym (plain_text (take run bytes) other)) (run_visible is_name_byte bytes name_bytes some))
+
+-- as many bits as the number
+length-binary : (n value : ℕ) → length (binary n value) ≡ n
+unfolding binary
+length-binary zero value = refl
+length-binary (suc n) value = ap suc (length-binary n value)
+
+length-fit : (n : ℕ) (bits : List Bit) → length (fit n bits) ≡ n
+unfolding fit
+length-fit n bits =
+    elim (cases_Bool (nat_lt (length bits) n)) [
+      | inl e ↦ let less : length bits < n = ltb-true (length bits) n e in
+          rw e (length-append (replicate (n - length bits) (filler bits)) bits ∙ ap (λ m. m + length bits) (length-replicate (n - length bits) (filler bits)) ∙ omega arith)
+      | inr e ↦ let le : n ≤ length bits = ltb-false (length bits) n e in
+          rw e (length-drop (length bits - n) bits ∙ omega arith)
+    ]
+
+length-bits_in : (n : ℕ) (base : Base) (digits : List ℕ) → length (bits_in n base digits) ≡ n
+unfolding bits_in
+length-bits_in n Binary digits = length-fit n (bits_of Binary digits)
+length-bits_in n Octal digits = length-fit n (bits_of Octal digits)
+length-bits_in n Hexadecimal digits = length-fit n (bits_of Hexadecimal digits)
+length-bits_in n Decimal digits =
+    elim (cases_Bool (is_single digits)) [
+      | inl e ↦ rw e (length-replicate n (bit_at (first digits) 1))
+      | inr e ↦ rw e (length-binary n (decimal_value digits))
+    ]
+
+size_some : (size : Option ℕ) → size_holds size ≡ true → 1 ≤ width_of size
+size_some None h = omega arith
+size_some (Some size) h = leb-true 1 size (and_parts (leb 1 size) (leb size 128) h).0
+
+holds_some : (size : Option ℕ) (form : Form) → holds size form ≡ true → 1 ≤ width_of size
+unfolding holds
+holds_some size form h =
+    size_some size (and_parts (size_holds size) (digits_hold form.base form.digits) (and_parts (size_holds size && digits_hold form.base form.digits) (value_holds size form.base form.digits) h).0).0
+
+-- what a based number without faults means
+literal_in : Option ℕ → Form → Literal
+literal_in size form = record { size = size; signed = form.signed; base = form.base; bits = bits_in (width_of size) form.base form.digits }
+
+meaning-some : (size : Option ℕ) (form : Form) → holds size form ≡ true → meaning size (Some form) ≡ Some (literal_in size form)
+unfolding meaning literal_in
+meaning-some size form h = rw h refl
+
+based_means : (size : Option ℕ) (form : Form) (bytes : List ℕ) → literal_of bytes ≡ meaning size (Some form) → holds size form ≡ true → HasBits bytes
+unfolding literal_in
+based_means size form bytes is h =
+    let width : length (bits_in (width_of size) form.base form.digits) ≡ width_of size = length-bits_in (width_of size) form.base form.digits in
+    record {
+      literal = literal_in size form;
+      means = is ∙ meaning-some size form h;
+      width = width;
+      some = omega (arith, width, holds_some size form h);
+      few = omega (arith, width, holds_within size form h);
+    }
+
+-- a based number at a place is read alike in the text cut behind it
+abbrev ReadsBehind : Option ℕ → ℕ → List ℕ → Type 0
+ReadsBehind size place bytes = (len : ℕ) → place < len → literal_of (take len bytes) ≡ meaning size (form_at (drop place (take len bytes)))
+
+literal_with_says : (size : Option ℕ) (place : ℕ) (bytes : List ℕ) (found : Option Form) → form_at (drop place bytes) ≡ found → ReadsBehind size place bytes → Says bytes (literal_with size place found)
+unfolding literal_with
+literal_with_says size place bytes None is reads = tt
+literal_with_says size place bytes (Some form) is reads =
+    either bytes (holds size form) (Ok (record { kind = Some kind.Based; len = place + form.len })) (Err fault.BadNumber)
+    (λ h.
+    let cut : (0 < form.len) × (form_at (take form.len (drop place bytes)) ≡ Some form) = form_cut (drop place bytes) form is in
+    let less : place < place + form.len = omega (arith, cut.0) in
+    based_means size form (take (place + form.len) bytes)
+    (reads (place + form.len) less ∙ ap (λ (bs : List ℕ). meaning size (form_at bs)) (drop-take place form.len bytes) ∙ ap (meaning size) cut.1) h)
+    (λ _. tt)
+
+-- without size
+no_number_byte : (byte : ℕ) → byte ≡ 39 → is_number_byte byte ≡ false
+no_number_byte byte is = ap is_number_byte is
+
+plain_reads : (bytes : List ℕ) → first bytes ≡ 39 → ReadsBehind None 0 bytes
+unfolding literal_of
+plain_reads bytes is zero less = absurd (omega arith)
+plain_reads [] is (suc len) less = refl
+plain_reads (byte ∷ bytes) is (suc len) less = rw (no_number_byte byte is) refl
+
+-- with a size
+read_by : ℕ → List ℕ → ℕ → List ℕ → Option Literal
+read_by n digits place text =
+    if eqb n 0 then meaning None (form_at text)
+    else if nat_lt (decimal_value digits) 2147483648 then meaning (Some (decimal_value digits)) (form_at (drop place text))
+    else None
+
+literal_of-read : (text : List ℕ) → literal_of text ≡ read_by (number_run text) (take (number_run text) text) (quote_place (number_run text) text) text
+unfolding literal_of read_by
+literal_of-read text = refl
+
+read_by-some : (n place : ℕ) (digits text : List ℕ) → 0 < n → nat_lt (decimal_value digits) 2147483648 ≡ true → read_by n digits place text ≡ meaning (Some (decimal_value digits)) (form_at (drop place text))
+unfolding read_by
+read_by-some n place digits text some small =
+    let other : eqb n 0 ≡ false = false_from_ne_true (eqb n 0) (λ e. let same : n ≡ 0 = eqb-true n 0 e in absurd (omega arith)) in
+    rw (other, small) refl
+
+sized_reads : (n : ℕ) (bytes : List ℕ) → n ≡ number_run bytes → 0 < n → nat_lt (decimal_value (take n bytes)) 2147483648 ≡ true → ReadsBehind (Some (decimal_value (take n bytes))) (quote_place n bytes) bytes
+sized_reads n bytes is some small len less =
+    let cut : List ℕ = take len bytes in
+    let blanks : ℕ = blank_run (drop n bytes) in
+    let m : ℕ = len - n in
+    let long : n ≤ len = omega arith in
+    let enough : blanks ≤ m = omega arith in
+    let sum : len ≡ n + m = omega arith in
+    let within : number_run bytes ≤ len = omega (arith, is) in
+    let same_run : number_run cut ≡ n = run_cut is_number_byte len bytes within ∙ sym is in
+    let tail : drop n cut ≡ take m (drop n bytes) = ap (λ l. drop n (take l bytes)) sum ∙ drop-take n m bytes in
+    let same_place : quote_place n cut ≡ quote_place n bytes = ap (λ (bs : List ℕ). n + blank_run bs) tail ∙ ap (λ k. n + k) (run_cut is_blank m (drop n bytes) enough) in
+    literal_of-read cut
+    ∙ ap (λ k. read_by k (take k cut) (quote_place k cut) cut) same_run
+    ∙ ap (λ (digits : List ℕ). read_by n digits (quote_place n cut) cut) (take_cut n len bytes long)
+    ∙ ap (λ place. read_by n (take n bytes) place cut) same_place
+    ∙ read_by-some n (quote_place n bytes) (take n bytes) cut some small
+
+exponent_says : (shape : TokenKind) (len : ℕ) (bytes : List ℕ) → Meant (Some shape) len (take len bytes) → Says bytes (exponent_at shape len bytes)
+unfolding exponent_at
+exponent_says shape len bytes meant =
+    either bytes (nat_lt 0 (exponent_len (drop len bytes))) (Ok (record { kind = Some kind.Exponent; len = len + exponent_len (drop len bytes) })) (Ok (record { kind = Some shape; len = len })) (λ _. tt) (λ _. meant)
+
+whole_says : (n : ℕ) (bytes : List ℕ) → n ≡ number_run bytes → 0 < n → Says bytes (whole_at n bytes)
+unfolding whole_at
+whole_says n bytes is some =
+    let value : ℕ = decimal_value (take n bytes) in
+    let place : ℕ = quote_place n bytes in
+    let based : Found = literal_at (Some value) place bytes in
+    let other : Found = exponent_at kind.Number n bytes in
+    either bytes (not (nat_lt value 2147483648)) (Err fault.BadNumber) (if eqb (first (drop place bytes)) 39 then based else other)
+    (λ _. tt)
+    (λ h.
+    let small : nat_lt value 2147483648 ≡ true = not-false (nat_lt value 2147483648) h in
+    either bytes (eqb (first (drop place bytes)) 39) based other
+    (λ _. literal_with_says (Some value) place bytes (form_at (drop place bytes)) refl (sized_reads n bytes is some small))
+    (λ _. exponent_says kind.Number n bytes (ltb-true value 2147483648 small)))
+
+number_says : (bytes : List ℕ) → is_ascii_digit (first bytes) ≡ true → Says bytes (number_at bytes)
+unfolding number_at
+number_says bytes digit =
+    either bytes (nat_lt 0 (decimal_len bytes)) (exponent_at kind.Decimal (decimal_len bytes) bytes) (whole_at (number_run bytes) bytes)
+    (λ _. exponent_says kind.Decimal (decimal_len bytes) bytes tt)
+    (λ _. whole_says (number_run bytes) bytes refl (number_run_some bytes digit))
+
+plain_says : (bytes : List ℕ) → Says bytes (plain_at bytes)
+unfolding plain_at
+plain_says bytes =
+    let byte : ℕ = first bytes in
+    let mark : Found = mark_at bytes in
+    let literal : Found = if eqb byte 39 then literal_at None 0 bytes else mark in
+    let directive : Found = if eqb byte 96 then directive_at bytes else literal in
+    let escaped : Found = if eqb byte 92 then escaped_at bytes else directive in
+    let quote : Found = if eqb byte 34 then quote_at bytes else escaped in
+    let opening : Found = if eqb byte 40 then open_at bytes else quote in
+    let slash : Found = if eqb byte 47 then slash_at (Ok (record { kind = Some kind.Mark; len = 1 })) bytes else opening in
+    let number : Found = if is_ascii_digit byte then number_at bytes else slash in
+    let name : Found = if is_letter byte then name_at bytes else number in
+    either bytes (is_blank byte) (Ok (record { kind = None; len = blank_run bytes })) name (λ _. tt) (λ _.
+    either bytes (is_letter byte) (name_at bytes) number (name_says bytes) (λ _.
+    either bytes (is_ascii_digit byte) (number_at bytes) slash (number_says bytes) (λ _.
+    either bytes (eqb byte 47) (slash_at (Ok (record { kind = Some kind.Mark; len = 1 })) bytes) opening
+    (λ e. slash_says (Ok (record { kind = Some kind.Mark; len = 1 })) bytes (one_mark bytes 47 (eqb-true byte 47 e) refl)) (λ _.
+    either bytes (eqb byte 40) (open_at bytes) quote (λ e. open_says bytes (eqb-true byte 40 e)) (λ _.
+    either bytes (eqb byte 34) (quote_at bytes) escaped (λ _. quote_says bytes) (λ _.
+    either bytes (eqb byte 92) (escaped_at bytes) directive (λ e. escaped_says bytes (eqb-true byte 92 e)) (λ _.
+    either bytes (eqb byte 96) (directive_at bytes) literal (λ _. directive_says bytes) (λ _.
+    either bytes (eqb byte 39) (literal_at None 0 bytes) mark
+    (λ e. literal_with_says None 0 bytes (form_at bytes) refl (plain_reads bytes (eqb-true byte 39 e))) (λ _.
+    mark_says bytes)))))))))
+
+pub endtable_is_reserved : is_reserved (codes "endtable") ≡ true
+unfolding is_reserved reserved words_of
+endtable_is_reserved = refl
+
+table_end_is_reserved : (bytes : List ℕ) → is_table_end bytes ≡ true → is_reserved (take 8 bytes) ≡ true
+unfolding is_table_end
+table_end_is_reserved bytes is =
+    let same : same_name (take 8 bytes) (codes "endtable") ≡ true = (and_parts (same_name (take 8 bytes) (codes "endtable")) (not (is_name_byte (first (drop 8 bytes)))) is).0 in
+    ap (λ (name : List ℕ). is_reserved name) ((bytes_eq-Decides (take 8 bytes) (codes "endtable")).0 same) ∙ endtable_is_reserved
+
+row_says : (bytes : List ℕ) → Says bytes (row_at bytes)
+unfolding row_at
+row_says bytes =
+    let byte : ℕ = first bytes in
+    let word : Found = if is_table_end bytes then Ok (record { kind = Some kind.Word; len = 8 }) else Err fault.BadByte in
+    let slash : Found = if eqb byte 47 then slash_at (Err fault.BadByte) bytes else word in
+    let symbol : Found = if is_symbol byte then Ok (record { kind = Some kind.Symbol; len = 1 }) else slash in
+    either bytes (is_blank byte) (Ok (record { kind = None; len = blank_run bytes })) symbol (λ _. tt) (λ _.
+    either bytes (is_symbol byte) (Ok (record { kind = Some kind.Symbol; len = 1 })) slash
+    (λ h. (refl, ap is_symbol (first_cut 0 1 bytes (omega arith)) ∙ h)) (λ _.
+    either bytes (eqb byte 47) (slash_at (Err fault.BadByte) bytes) word (λ _. slash_says (Err fault.BadByte) bytes tt) (λ _.
+    either bytes (is_table_end bytes) (Ok (record { kind = Some kind.Word; len = 8 })) (Err fault.BadByte) (table_end_is_reserved bytes) (λ _. tt))))
+
+pub place_says : (table : Bool) (bytes : List ℕ) → Says bytes (place_at table bytes)
+unfolding place_at
+place_says true bytes = row_says bytes
+place_says false bytes = plain_says bytes
