@@ -21,4 +21,4 @@ pub use lexer::tokens;
 pub use lists::{BitList, TokenList};
 pub use literals::{Base, Bit};
 pub use token::{Token, TokenKind};
-pub use values::{Literal, literal_value, name_text, number_value};
+pub use values::{Literal, is_literal, literal_value, name_text, number_value};

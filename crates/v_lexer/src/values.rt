@@ -1,4 +1,4 @@
-ghost use Rattle.std.specs.Prelude.{◌≡◌, ◌≤◌, ◌<◌, ◌+◌, ◌-◌, ◌*◌, ◌/◌, ◌%◌, ◌^◌, ◌==◌, if◌then◌else◌, ◌++◌, length, replicate, IsTrue, nat_le, ◌||◌, Option, None, Some, IfOk, OnOk, MatchOption};
+ghost use Rattle.std.specs.Prelude.{◌≡◌, ◌≤◌, ◌<◌, ◌+◌, ◌-◌, ◌*◌, ◌/◌, ◌%◌, ◌^◌, ◌==◌, if◌then◌else◌, ◌++◌, length, replicate, IsTrue, nat_le, ◌||◌, Option, None, Some, is_some, IfOk, OnOk, MatchOption};
 ghost use Rattle.v_lexer.specs.declared.literals.Base.TheVariants.{Octal, Decimal, Hexadecimal};
 ghost use Rattle.v_lexer.specs.declared.literals.Bit.TheVariants.{Zero, One};
 ghost use Rattle.v_lexer.specs.Numbers.{decimal_value};
@@ -243,5 +243,32 @@ pub fn literal_value(alloc: Global, token: &[u8]) -> Result<Option<Literal>, All
     match number_value(before(token, len)) {
         Some(size) => meaning(alloc, Some(size), after(token, place)),
         None => Ok(None),
+    }
+}
+
+/// Whether a based number of a size means something.
+#[tactic(auto, unfolding(crate::specs::Values::meaning))]
+fn has_meaning(size: Option<u32>, text: &[u8]) -> bool
+    ensures { result ≡ is_some (meaning size (form_at text.now)) }
+{
+    match form_at(text) {
+        Some(form) => holds(size, &form),
+        None => false,
+    }
+}
+
+/// Whether `literal_value` has a literal for the bytes of a token. It takes no memory.
+#[tactic(auto, unfolding(crate::specs::Values::literal_of))]
+pub fn is_literal(token: &[u8]) -> bool
+    ensures { result ≡ is_some (literal_of token.now) }
+{
+    let len = number_run(token);
+    if len == 0 {
+        return has_meaning(None, token);
+    }
+    let place = len + blank_run(after(token, len));
+    match number_value(before(token, len)) {
+        Some(size) => has_meaning(Some(size), after(token, place)),
+        None => false,
     }
 }

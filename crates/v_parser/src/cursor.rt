@@ -1,6 +1,6 @@
 //! A cursor over the tokens of a text.
 
-ghost use Rattle.std.specs.Prelude.{◌≡◌, ◌≤◌, ◌<◌, ◌∷◌, [], IfOk, IfSome, IfNone, length, take, drop, ◌-◌};
+ghost use Rattle.std.specs.Prelude.{◌≡◌, ◌≤◌, ◌<◌, ◌∷◌, [], IfOk, IfSome, IfNone, ◌^◌, length, take, drop, ◌-◌};
 ghost use Rattle.v_lexer.specs.declared.token.TokenKind.TheVariants.{End};
 ghost use Rattle.v_tree.specs.Written.{slice_of};
 ghost use Rattle.name_table.specs.Names.{is_among};
@@ -16,7 +16,7 @@ use crate::fault::ParseFault;
 use flat_net::Bytes;
 use std::alloc::{AllocError, Global};
 use std::marker::Model;
-use v_lexer::{Literal, Token, TokenKind, literal_value, name_text, number_value};
+use v_lexer::{Literal, Token, TokenKind, is_literal, literal_value, name_text, number_value};
 use v_tree::{Name, Place};
 
 /// The tokens that are left, and the text that they stand in.
@@ -136,8 +136,21 @@ fn copy_of(alloc: Global, bytes: &[u8]) -> Result<Bytes, AllocError>
     Ok(Bytes::from_vec(bytes.to_vec(alloc)?))
 }
 
-#[tactic(auto, unfolding(crate::specs::Input::front, crate::specs::Input::place, crate::specs::Input::next, crate::specs::Input::kind_of, crate::specs::Input::bytes, crate::specs::Input::refusal, crate::specs::Input::mark, crate::specs::Input::skip, crate::specs::Input::word, crate::specs::Input::name, crate::specs::Input::number, crate::specs::Input::placed_number, crate::specs::Input::placed_based, v_tree::specs::Written::form_of))]
+#[tactic(auto, unfolding(crate::specs::Input::front, crate::specs::Input::place, crate::specs::Input::next, crate::specs::Input::kind_of, crate::specs::Input::bytes, crate::specs::Input::refusal, crate::specs::Input::mark, crate::specs::Input::skip, crate::specs::Input::word, crate::specs::Input::skip_word, crate::specs::Input::finish, crate::specs::Input::name, crate::specs::Input::number, crate::specs::Input::placed_number, crate::specs::Input::placed_based, v_tree::specs::Written::form_of))]
 impl<'a> Cursor<'a> {
+    /// All tokens of a text.
+    pub fn new(alloc: Global, text: &'a [u8], tokens: &'a [Token]) -> Cursor<'a>
+        requires { length tokens.now < 2 ^ 32 }
+        ensures { result ≡ record { text = text.now; tokens = tokens.now; number = 0 } }
+    {
+        Cursor {
+            alloc,
+            text,
+            tokens,
+            number: 0,
+        }
+    }
+
     /// What kind the next token is: the end, where no token is left.
     fn kind(&self) -> TokenKind
         ensures { result ≡ spec.kind_of self.now }
@@ -272,6 +285,40 @@ impl<'a> Cursor<'a> {
         }
     }
 
+    /// A word.
+    pub fn skip_word(&mut self, word: &[u8]) -> Result<(), ParseFault>
+        ensures { Reads (spec.skip_word word.now self.old) result self.new }
+    {
+        if self.sees_word(word) {
+            self.advance();
+            Ok(())
+        } else {
+            Err(self.refuse())
+        }
+    }
+
+    /// Whether the text ends here.
+    pub fn sees_finish(&self) -> bool
+        ensures { result ≡ spec.is_finish (spec.front self.now) }
+    {
+        match self.tokens {
+            [token, ..] => token.kind == TokenKind::End,
+            [] => false,
+        }
+    }
+
+    /// The end of the text.
+    pub fn finish(&mut self) -> Result<(), ParseFault>
+        ensures { Reads (spec.finish self.old) result self.new }
+    {
+        if self.sees_finish() {
+            self.advance();
+            Ok(())
+        } else {
+            Err(self.refuse())
+        }
+    }
+
     /// A name.
     pub fn name(&mut self) -> Result<Name, ParseFault>
         ensures { Reads (spec.name self.old) result self.new }
@@ -369,7 +416,7 @@ impl<'a> Cursor<'a> {
     pub fn sees_based(&self) -> bool
         ensures { result ≡ spec.is_based (spec.front self.now) }
     {
-        self.kind() == TokenKind::Based && has_literal(self.bytes())
+        self.kind() == TokenKind::Based && is_literal(self.bytes())
     }
 
     /// The next token as a literal, where it is one.

@@ -12,9 +12,7 @@ use crate::drives::{charge_if_there, delay_if_there, drive_in_parentheses};
 use crate::expressions::{expr_at, range, target_at};
 use crate::fault::ParseFault;
 use crate::lists::{Part, separated};
-use crate::words::{
-    direction_word, net_type_word, sees_net_type, sees_spread, spread_word,
-};
+use crate::words::{direction_word, net_type_word, sees_net_type, sees_spread, spread_word};
 use v_tree::{
     AssignItem, Declared, Expr, Name, NetDecl, NetType, Pair, PortDecl, Range, Spread, SpreadWord,
     Target, TriregDecl, ValuedName,

@@ -13,9 +13,7 @@ use crate::drives::{delay_if_there, drive_if_there, pull_levels_if_there};
 use crate::fault::ParseFault;
 use crate::lists::{Part, separated};
 use crate::words::{logic_word, pull_word, switch_word, tran_word};
-use v_tree::{
-    Connection, Connections, Expr, GateItem, GateKind, Inst, Instance, Name, Terms,
-};
+use v_tree::{Connection, Connections, Expr, GateItem, GateKind, Inst, Instance, Name, Terms};
 
 /// A name, where one comes next.
 #[tactic(auto, unfolding(crate::specs::Input::optional))]

@@ -2,10 +2,13 @@
 #![tactic(auto)]
 
 mod cursor;
+mod declarations;
 mod drives;
 mod expressions;
 mod fault;
+mod gates;
 mod lists;
+mod modules;
 mod words;
 
 pub use fault::ParseFault;

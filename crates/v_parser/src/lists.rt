@@ -55,3 +55,32 @@ pub fn separated<P: Part>(cursor: &mut Cursor<'_>) -> Result<Items<P>, ParseFaul
     found.push(P::read(cursor)?)?;
     commas(cursor, found)
 }
+
+/// A part that comes again and again, up to a token that ends the list.
+pub trait Repeated: Part {
+    ghost use Rattle.std.specs.Prelude.{◌≡◌, Bool};
+    ghost use Rattle.v_tree.specs.Written.{Form};
+    ghost use Rattle.v_parser.specs.Input.{front};
+
+    /// What ends the list.
+    ghost stops: { Form → Bool };
+
+    /// Whether the list ends here.
+    fn ends(cursor: &Cursor<'_>) -> bool
+        ensures { result ≡ stops (front cursor.now) };
+}
+
+/// Parts up to a token that ends them.
+#[tactic(auto, unfolding(crate::specs::Input::many, crate::specs::Input::many_from))]
+pub fn many<P: Repeated>(cursor: &mut Cursor<'_>) -> Result<Items<P>, ParseFault>
+    ensures { Reads (input.many P.stops P.reader cursor.old) result cursor.new }
+{
+    let mut found = Items::new(cursor.alloc());
+    for _ in 0..cursor.left() {
+        if P::ends(cursor) {
+            return Ok(found);
+        }
+        found.push(P::read(cursor)?)?;
+    }
+    Ok(found)
+}
