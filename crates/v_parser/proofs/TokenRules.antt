@@ -37,19 +37,16 @@ use Rattle.v_parser.specs.Input.{Reader, token, is_mark, is_word, is_finish, wor
 use Rattle.v_parser.specs.Input as input
 use Rattle.v_parser.specs.Words.{named, chosen, level_with}
 use Rattle.v_parser.specs.Words as stands
-use Rattle.v_parser.proofs.Rules.{Rule, Follow, anything, token_rule, bare_rule, map_rule, refit_rule}
-
-some_of : {A : Type 0} → A → Option A
-some_of x = Some x
+use Rattle.v_parser.proofs.Rules.{Rule, anything, token_rule, bare_rule, map_rule}
 
 -- what is there is one thing
-some_is : {A : Type 0} (x y : A) → Some x ≡ Some y → x ≡ y
+pub some_is : {A : Type 0} (x y : A) → Some x ≡ Some y → x ≡ y
 some_is x y e = cc
 
 -- ---- names and numbers
 
 -- a token with a name is a name
-name_is : (f : Form) (x : List ℕ) → name_in f ≡ Some x → f ≡ form.Name x
+pub name_is : (f : Form) (x : List ℕ) → name_in f ≡ Some x → f ≡ form.Name x
 name_is (form.Name text) x e = ap form.Name (some_is text x e)
 name_is f x e = absurd cc
 
@@ -69,7 +66,7 @@ unfolding input.name
 name_rule = map_rule (token_rule name_in form.Name fit.IsNameText refl name_is name_fits (λ x f. refl)) name_of parts_of (λ b. refl) (λ a. refl)
 
 -- a token with a number is a number
-number_is : (f : Form) (x : ℕ) → number_in f ≡ Some x → f ≡ form.Number x
+pub number_is : (f : Form) (x : ℕ) → number_in f ≡ Some x → f ≡ form.Number x
 number_is (form.Number n) x e = ap form.Number (some_is n x e)
 number_is f x e = absurd cc
 
@@ -87,7 +84,7 @@ unfolding input.placed_number
 placed_number_rule = token_rule number_in form.Number fit.IsNumber refl number_is number_fits (λ x f. refl)
 
 -- a token with a based number is a based number
-based_is : (f : Form) (x : Literal) → based_in f ≡ Some x → f ≡ form.Based x
+pub based_is : (f : Form) (x : Literal) → based_in f ≡ Some x → f ≡ form.Based x
 based_is (form.Based n) x e = ap form.Based (some_is n x e)
 based_is f x e = absurd cc
 
@@ -108,7 +105,7 @@ where_holds true u e = refl
 where_holds false u e = absurd cc
 
 -- a mark that is seen is the mark
-mark_is : (byte : ℕ) (f : Form) → is_mark byte f ≡ true → f ≡ form.Mark byte
+pub mark_is : (byte : ℕ) (f : Form) → is_mark byte f ≡ true → f ≡ form.Mark byte
 mark_is byte (form.Mark b) e = ap form.Mark (eqb-true b byte e)
 mark_is byte f e = absurd cc
 
@@ -117,7 +114,7 @@ mark_back : (byte : ℕ) → where_true (is_mark byte (form.Mark byte)) ≡ Some
 mark_back byte = ap where_true (eq-eqb byte byte refl)
 
 -- a word that is seen is the word
-word_is : (bytes : List ℕ) (f : Form) → is_word bytes f ≡ true → f ≡ form.Word bytes
+pub word_is : (bytes : List ℕ) (f : Form) → is_word bytes f ≡ true → f ≡ form.Word bytes
 word_is bytes (form.Word w) e = ap form.Word ((bytes_eq-Decides w bytes).0 e)
 word_is bytes f e = absurd cc
 
@@ -126,7 +123,7 @@ word_back : (bytes : List ℕ) → where_true (is_word bytes (form.Word bytes)) 
 word_back bytes = ap where_true ((bytes_eq-Decides bytes bytes).1 refl)
 
 -- an end that is seen is the end
-finish_is : (f : Form) → is_finish f ≡ true → f ≡ form.End
+pub finish_is : (f : Form) → is_finish f ≡ true → f ≡ form.End
 finish_is form.End e = refl
 finish_is f e = absurd cc
 
@@ -178,7 +175,7 @@ named_is {A} word_of (entry ∷ entries) word x e all = by (bytes_eq word entry.
     by false same e later = later e
 
 -- a token that stands for something is its word
-chosen_is : {A : Type 0} (stands_for : List ℕ → Option A) (word_of : A → List ℕ) → ((word : List ℕ) (x : A) → stands_for word ≡ Some x → word ≡ word_of x)
+pub chosen_is : {A : Type 0} (stands_for : List ℕ → Option A) (word_of : A → List ℕ) → ((word : List ℕ) (x : A) → stands_for word ≡ Some x → word ≡ word_of x)
     → (f : Form) (x : A) → chosen stands_for (word_in f) ≡ Some x → f ≡ form.Word (word_of x)
 chosen_is stands_for word_of is (form.Word w) x e = ap form.Word (is w x e)
 chosen_is stands_for word_of is f x e = absurd cc
@@ -198,12 +195,12 @@ bare_chosen_rule stands_for word_of is back =
     bare_rule (λ f. chosen stands_for (word_in f)) (λ x. form.Word (word_of x)) fit.IsFree refl (chosen_is stands_for word_of is) (λ f x sound e. tt) (λ x free. back x)
 
 -- the word of what a word stands for
-direction_named : (word : List ℕ) (x : Direction) → stands.direction_of word ≡ Some x → word ≡ words.direction_word x
+pub direction_named : (word : List ℕ) (x : Direction) → stands.direction_of word ≡ Some x → word ≡ words.direction_word x
 unfolding stands.direction_of stands.direction_table
 direction_named word x e = named_is words.direction_word stands.direction_table word x e (refl, (refl, (refl, tt)))
 
 -- each one's word stands for it
-direction_back : (x : Direction) → stands.direction_of (words.direction_word x) ≡ Some x
+pub direction_back : (x : Direction) → stands.direction_of (words.direction_word x) ≡ Some x
 unfolding stands.direction_of stands.direction_table
 direction_back direction.Input = refl
 direction_back direction.Output = refl
@@ -216,12 +213,12 @@ pub bare_direction_rule : Rule ((λ z. z.0) <$> token stands.direction_in) (λ x
 bare_direction_rule = bare_chosen_rule stands.direction_of words.direction_word direction_named direction_back
 
 -- the word of what a word stands for
-net_type_named : (word : List ℕ) (x : NetType) → stands.net_type_of word ≡ Some x → word ≡ words.net_type_word x
+pub net_type_named : (word : List ℕ) (x : NetType) → stands.net_type_of word ≡ Some x → word ≡ words.net_type_word x
 unfolding stands.net_type_of stands.net_type_table
 net_type_named word x e = named_is words.net_type_word stands.net_type_table word x e (refl, (refl, (refl, (refl, (refl, (refl, (refl, (refl, (refl, (refl, tt))))))))))
 
 -- each one's word stands for it
-net_type_back : (x : NetType) → stands.net_type_of (words.net_type_word x) ≡ Some x
+pub net_type_back : (x : NetType) → stands.net_type_of (words.net_type_word x) ≡ Some x
 unfolding stands.net_type_of stands.net_type_table
 net_type_back net_type.Wire = refl
 net_type_back net_type.Tri = refl
@@ -241,12 +238,12 @@ pub bare_net_type_rule : Rule ((λ z. z.0) <$> token stands.net_type_in) (λ x. 
 bare_net_type_rule = bare_chosen_rule stands.net_type_of words.net_type_word net_type_named net_type_back
 
 -- the word of what a word stands for
-spread_named : (word : List ℕ) (x : SpreadWord) → stands.spread_of word ≡ Some x → word ≡ words.spread_word x
+pub spread_named : (word : List ℕ) (x : SpreadWord) → stands.spread_of word ≡ Some x → word ≡ words.spread_word x
 unfolding stands.spread_of stands.spread_table
 spread_named word x e = named_is words.spread_word stands.spread_table word x e (refl, (refl, tt))
 
 -- each one's word stands for it
-spread_back : (x : SpreadWord) → stands.spread_of (words.spread_word x) ≡ Some x
+pub spread_back : (x : SpreadWord) → stands.spread_of (words.spread_word x) ≡ Some x
 unfolding stands.spread_of stands.spread_table
 spread_back spread.Vectored = refl
 spread_back spread.Scalared = refl
@@ -258,12 +255,12 @@ pub bare_spread_rule : Rule ((λ z. z.0) <$> token stands.spread_in) (λ x. spel
 bare_spread_rule = bare_chosen_rule stands.spread_of words.spread_word spread_named spread_back
 
 -- the word of what a word stands for
-charge_named : (word : List ℕ) (x : Charge) → stands.charge_of word ≡ Some x → word ≡ words.charge_word x
+pub charge_named : (word : List ℕ) (x : Charge) → stands.charge_of word ≡ Some x → word ≡ words.charge_word x
 unfolding stands.charge_of stands.charge_table
 charge_named word x e = named_is words.charge_word stands.charge_table word x e (refl, (refl, (refl, tt)))
 
 -- each one's word stands for it
-charge_back : (x : Charge) → stands.charge_of (words.charge_word x) ≡ Some x
+pub charge_back : (x : Charge) → stands.charge_of (words.charge_word x) ≡ Some x
 unfolding stands.charge_of stands.charge_table
 charge_back charge.Small = refl
 charge_back charge.Medium = refl
@@ -276,12 +273,12 @@ pub bare_charge_rule : Rule ((λ z. z.0) <$> token stands.charge_in) (λ x. spel
 bare_charge_rule = bare_chosen_rule stands.charge_of words.charge_word charge_named charge_back
 
 -- the word of what a word stands for
-logic_named : (word : List ℕ) (x : LogicGate) → stands.logic_of word ≡ Some x → word ≡ words.logic_word x
+pub logic_named : (word : List ℕ) (x : LogicGate) → stands.logic_of word ≡ Some x → word ≡ words.logic_word x
 unfolding stands.logic_of stands.logic_table
 logic_named word x e = named_is words.logic_word stands.logic_table word x e (refl, (refl, (refl, (refl, (refl, (refl, (refl, (refl, (refl, (refl, (refl, (refl, tt))))))))))))
 
 -- each one's word stands for it
-logic_back : (x : LogicGate) → stands.logic_of (words.logic_word x) ≡ Some x
+pub logic_back : (x : LogicGate) → stands.logic_of (words.logic_word x) ≡ Some x
 unfolding stands.logic_of stands.logic_table
 logic_back logic.And = refl
 logic_back logic.Nand = refl
@@ -303,12 +300,12 @@ pub bare_logic_rule : Rule ((λ z. z.0) <$> token stands.logic_in) (λ x. spell.
 bare_logic_rule = bare_chosen_rule stands.logic_of words.logic_word logic_named logic_back
 
 -- the word of what a word stands for
-switch_named : (word : List ℕ) (x : Switch) → stands.switch_of word ≡ Some x → word ≡ words.switch_word x
+pub switch_named : (word : List ℕ) (x : Switch) → stands.switch_of word ≡ Some x → word ≡ words.switch_word x
 unfolding stands.switch_of stands.switch_table
 switch_named word x e = named_is words.switch_word stands.switch_table word x e (refl, (refl, (refl, (refl, (refl, (refl, (refl, (refl, (refl, (refl, tt))))))))))
 
 -- each one's word stands for it
-switch_back : (x : Switch) → stands.switch_of (words.switch_word x) ≡ Some x
+pub switch_back : (x : Switch) → stands.switch_of (words.switch_word x) ≡ Some x
 unfolding stands.switch_of stands.switch_table
 switch_back switch.Nmos = refl
 switch_back switch.Pmos = refl
@@ -328,12 +325,12 @@ pub bare_switch_rule : Rule ((λ z. z.0) <$> token stands.switch_in) (λ x. spel
 bare_switch_rule = bare_chosen_rule stands.switch_of words.switch_word switch_named switch_back
 
 -- the word of what a word stands for
-tran_named : (word : List ℕ) (x : TranGate) → stands.tran_of word ≡ Some x → word ≡ words.tran_word x
+pub tran_named : (word : List ℕ) (x : TranGate) → stands.tran_of word ≡ Some x → word ≡ words.tran_word x
 unfolding stands.tran_of stands.tran_table
 tran_named word x e = named_is words.tran_word stands.tran_table word x e (refl, (refl, tt))
 
 -- each one's word stands for it
-tran_back : (x : TranGate) → stands.tran_of (words.tran_word x) ≡ Some x
+pub tran_back : (x : TranGate) → stands.tran_of (words.tran_word x) ≡ Some x
 unfolding stands.tran_of stands.tran_table
 tran_back tran.Tran = refl
 tran_back tran.Rtran = refl
@@ -345,12 +342,12 @@ pub bare_tran_rule : Rule ((λ z. z.0) <$> token stands.tran_in) (λ x. spell.wo
 bare_tran_rule = bare_chosen_rule stands.tran_of words.tran_word tran_named tran_back
 
 -- the word of what a word stands for
-pull_named : (word : List ℕ) (x : PullGate) → stands.pull_of word ≡ Some x → word ≡ words.pull_word x
+pub pull_named : (word : List ℕ) (x : PullGate) → stands.pull_of word ≡ Some x → word ≡ words.pull_word x
 unfolding stands.pull_of stands.pull_table
 pull_named word x e = named_is words.pull_word stands.pull_table word x e (refl, (refl, tt))
 
 -- each one's word stands for it
-pull_back : (x : PullGate) → stands.pull_of (words.pull_word x) ≡ Some x
+pub pull_back : (x : PullGate) → stands.pull_of (words.pull_word x) ≡ Some x
 unfolding stands.pull_of stands.pull_table
 pull_back pull.Pullup = refl
 pull_back pull.Pulldown = refl
@@ -362,12 +359,12 @@ pub bare_pull_rule : Rule ((λ z. z.0) <$> token stands.pull_in) (λ x. spell.wo
 bare_pull_rule = bare_chosen_rule stands.pull_of words.pull_word pull_named pull_back
 
 -- the word of what a word stands for
-opening_named : (word : List ℕ) (x : ModuleWord) → stands.opening_of word ≡ Some x → word ≡ words.opening_word x
+pub opening_named : (word : List ℕ) (x : ModuleWord) → stands.opening_of word ≡ Some x → word ≡ words.opening_word x
 unfolding stands.opening_of stands.opening_table
 opening_named word x e = named_is words.opening_word stands.opening_table word x e (refl, (refl, tt))
 
 -- each one's word stands for it
-opening_back : (x : ModuleWord) → stands.opening_of (words.opening_word x) ≡ Some x
+pub opening_back : (x : ModuleWord) → stands.opening_of (words.opening_word x) ≡ Some x
 unfolding stands.opening_of stands.opening_table
 opening_back opening.Module = refl
 opening_back opening.Macromodule = refl
@@ -379,7 +376,7 @@ pub bare_opening_rule : Rule ((λ z. z.0) <$> token stands.opening_in) (λ x. sp
 bare_opening_rule = bare_chosen_rule stands.opening_of words.opening_word opening_named opening_back
 
 -- the word of what a word stands for
-level_named : (word : List ℕ) (x : Level) → stands.level_of word ≡ Some x → word ≡ words.level_word x
+pub level_named : (word : List ℕ) (x : Level) → stands.level_of word ≡ Some x → word ≡ words.level_word x
 unfolding stands.level_of stands.level_table
 level_named word x e = named_is words.level_word stands.level_table word x e (refl, (refl, (refl, (refl, (refl, (refl, (refl, (refl, (refl, (refl, tt))))))))))
 
@@ -398,7 +395,7 @@ strength_back Highz false = refl
 strength_back Highz true = refl
 
 -- each one's word stands for it
-level_back : (x : Level) → stands.level_of (words.level_word x) ≡ Some x
+pub level_back : (x : Level) → stands.level_of (words.level_word x) ≡ Some x
 level_back x = strength_back x.strength x.of_one
 
 pub level_rule : Rule (token stands.level_in) (λ z. spell.placed_word z.1 (words.level_word z.0) ∷ []) fit.IsFree anything
