@@ -1,5 +1,5 @@
 -- Rules of drives, charges and delays.
-use Rattle.std.proofs.Common.{◌≡◌, ℕ, ◌<◌, Bool, true, false, not, ◌&&◌, List, [], ◌∷◌, ◌++◌, length, Option, Some, None, is_some, ◌⊎◌, inl, inr, refl, sym, ap, subst, arith}
+use Rattle.std.proofs.Common.{◌≡◌, ℕ, ◌<◌, true, not, List, [], ◌∷◌, ◌++◌, length, Option, Some, None, is_some, ◌⊎◌, inl, inr, refl, sym, ap, subst, arith}
 use Rattle.v_tree.specs.declared.places.Place.{Place}
 use Rattle.v_tree.specs.declared.drives.Level.{Level}
 use Rattle.v_tree.specs.declared.drives.Drive.{Drive}
@@ -10,12 +10,11 @@ use Rattle.v_tree.specs.declared.drives.DelayValue.TheVariants.{One, Three}
 use Rattle.v_tree.specs.declared.drives.Delay.{Delay}
 use Rattle.v_tree.specs.declared.drives.Delay.TheVariants as delays
 use Rattle.v_tree.specs.declared.drives.DelaySpec.{DelaySpec}
-use Rattle.v_tree.specs.Written.{Form, Written, at, bare, written_if_there, between_commas}
-use Rattle.v_tree.specs.Written as form
+use Rattle.v_tree.specs.Written.{Written, written_if_there}
 use Rattle.v_tree.specs.Fit as fit
 use Rattle.v_tree.specs.Words as words
 use Rattle.v_tree.specs.Spelling as spell
-use Rattle.v_parser.specs.Input.{Reader, is_mark, ◌<$>◌, ◌&◌, number, choice}
+use Rattle.v_parser.specs.Input.{is_mark, ◌<$>◌, number, choice}
 use Rattle.v_parser.specs.Expressions.{sees_mark, sees_number}
 use Rattle.v_parser.specs.Drives as read
 use Rattle.v_parser.proofs.Rules.{Rule, Follow, anything, begins, first_form, map_rule, variant_rule, refit_rule, pair_rule, optional_rule, choice_rule, separated_rule}
@@ -28,6 +27,7 @@ free_if_there (Some x) = tt
 
 -- ---- levels
 
+-- a level
 pub level_rule : Rule read.level (λ l. spell.level l ∷ []) fit.IsFree anything
 unfolding read.level
 level_rule = bare_level_rule
@@ -35,6 +35,7 @@ level_rule = bare_level_rule
 abbrev drive_parts : Drive → Place × (Level × (Unit {0} × (Level × Unit {0})))
 drive_parts d = (d.place, (d.first, (tt, (d.second, tt))))
 
+-- `( level , level )`
 pub drive_rule : Rule read.drive spell.drive fit.IsFree anything
 unfolding read.drive
 drive_rule =
@@ -46,6 +47,7 @@ drive_rule =
 abbrev second_parts : Level → Unit {0} × Level
 second_parts l = (tt, l)
 
+-- `, level`
 second_level_rule : Rule read.second_level spell.second_level fit.IsFree anything
 unfolding read.second_level
 second_level_rule =
@@ -55,6 +57,7 @@ second_level_rule =
 abbrev pull_parts : PullLevels → Place × (Level × (Option Level × Unit {0}))
 pull_parts p = (p.place, (p.first, (p.second, tt)))
 
+-- `( level )` or `( level , level )`
 pub pull_levels_rule : Rule read.pull_levels spell.pull_levels fit.IsFree anything
 unfolding read.pull_levels
 pull_levels_rule =
@@ -73,6 +76,7 @@ pull_begins p ws = ap is_some (level_back p.first)
 
 -- ---- charges
 
+-- a word for a charge
 charge_named_rule : Rule read.charge_named (λ c. spell.word (words.charge_word c) ∷ []) fit.IsFree anything
 unfolding read.charge_named
 charge_named_rule = bare_charge_rule
@@ -80,6 +84,7 @@ charge_named_rule = bare_charge_rule
 abbrev charge_parts : Charge → Unit {0} × (Charge × Unit {0})
 charge_parts c = (tt, (c, tt))
 
+-- `( charge )`
 pub charge_rule : Rule read.charge spell.charge fit.IsFree anything
 unfolding read.charge
 charge_rule =
@@ -101,6 +106,7 @@ others_of z = (z.1.0, z.1.1.1)
 abbrev others_parts : ℕ × ℕ → Unit {0} × (ℕ × (Unit {0} × ℕ))
 others_parts z = (tt, (z.0, (tt, z.1)))
 
+-- `: number : number`
 other_values_rule : Rule read.other_values others AreNumbers anything
 unfolding read.other_values
 other_values_rule =
@@ -130,6 +136,7 @@ value_from : (x : DelayValue) → fit.IsFitDelayValue x → (a : ℕ × Option (
 value_from (One n) f = ((n, None), refl, (f, tt))
 value_from (Three a b c) f = ((a, Some (b, c)), refl, (f.0, (f.1, f.2)))
 
+-- a number, or three with `:` between
 delay_value_rule : Rule read.delay_value spell.delay_value fit.IsFitDelayValue no_colon
 unfolding read.delay_value
 delay_value_rule =
@@ -146,6 +153,7 @@ value_some (Three a b c) f = omega arith
 abbrev AreValues : Delay → Type 0
 AreValues x = (z : Unit {0} × (List DelayValue × Unit {0})) × (x ≡ delays.Values z.1.0) × (Unit {0} × (fit.AreSome fit.IsFitDelayValue z.1.0 × Unit {0}))
 
+-- `( value , .. )`
 delay_values_rule : Rule read.delay_values spell.delay AreValues anything
 unfolding read.delay_values
 delay_values_rule =
@@ -165,6 +173,7 @@ delay_from : (x : Delay) → fit.IsFitDelay x → IsOneNumber x ⊎ AreValues x
 delay_from (delays.Number n) f = inl (n, refl, f)
 delay_from (delays.Values values) f = inr ((tt, (values, tt)), refl, (tt, (f, tt)))
 
+-- a number or values
 delay_rule : Rule (choice sees_number (delays.Number <$> number) read.delay_values) spell.delay fit.IsFitDelay anything
 delay_rule =
     refit_rule (choice_rule sees_number (variant_rule number_rule delays.Number spell.delay (λ a. refl)) delay_values_rule
@@ -175,6 +184,7 @@ delay_rule =
 abbrev spec_parts : DelaySpec → Place × Delay
 spec_parts d = (d.place, d.delay)
 
+-- `# number` or `# ( value , .. )`
 pub delay_spec_rule : Rule read.delay_spec spell.delay_spec fit.IsFitDelaySpec anything
 unfolding read.delay_spec
 delay_spec_rule =

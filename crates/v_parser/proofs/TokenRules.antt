@@ -1,5 +1,5 @@
 -- Rules of single tokens.
-use Rattle.std.proofs.Common.{◌≡◌, ℕ, Bool, true, false, List, [], ◌∷◌, Option, Some, None, codes, refl, sym, ap, subst, ◌∙◌, if◌then◌else◌}
+use Rattle.std.proofs.Common.{◌≡◌, ℕ, Bool, true, false, List, [], ◌∷◌, Option, Some, refl, ap, subst, ◌∙◌, if◌then◌else◌}
 use Rattle.std.specs.List.{AllByRecursion}
 use Rattle.std.specs.Str.{bytes_eq}
 use Rattle.std.proofs.lemmas.Bool.{eqb-true, eq-eqb}
@@ -28,12 +28,12 @@ use Rattle.v_tree.specs.declared.modules.ModuleWord.TheVariants as opening
 use Rattle.v_tree.specs.declared.drives.Strength.{Strength}
 use Rattle.v_tree.specs.declared.drives.Strength.TheVariants.{Supply, Strong, Pull, Weak, Highz}
 use Rattle.v_tree.specs.declared.drives.Level.{Level}
-use Rattle.v_tree.specs.Written.{Form, Written, at, bare}
+use Rattle.v_tree.specs.Written.{Form, at, bare}
 use Rattle.v_tree.specs.Written as form
 use Rattle.v_tree.specs.Fit as fit
 use Rattle.v_tree.specs.Words as words
 use Rattle.v_tree.specs.Spelling as spell
-use Rattle.v_parser.specs.Input.{Reader, token, is_mark, is_word, is_finish, word_in, where_true, name_in, number_in, based_in, ◌<$>◌}
+use Rattle.v_parser.specs.Input.{token, is_mark, is_word, is_finish, word_in, where_true, name_in, number_in, based_in, ◌<$>◌}
 use Rattle.v_parser.specs.Input as input
 use Rattle.v_parser.specs.Words.{named, chosen, level_with}
 use Rattle.v_parser.specs.Words as stands
@@ -61,6 +61,7 @@ name_of z = record { place = z.1; text = z.0 }
 abbrev parts_of : Name → List ℕ × Place
 parts_of n = (n.text, n.place)
 
+-- a name
 pub name_rule : Rule input.name spell.name fit.IsFitName anything
 unfolding input.name
 name_rule = map_rule (token_rule name_in form.Name fit.IsNameText refl name_is name_fits (λ x f. refl)) name_of parts_of (λ b. refl) (λ a. refl)
@@ -75,10 +76,12 @@ number_fits : (f : Form) (x : ℕ) → fit.IsSoundForm f → number_in f ≡ Som
 number_fits (form.Number n) x sound e = subst fit.IsNumber (some_is n x e) sound
 number_fits f x sound e = absurd cc
 
+-- a number
 pub number_rule : Rule input.number (λ n. spell.number n ∷ []) fit.IsNumber anything
 unfolding input.number input.placed_number
 number_rule = bare_rule number_in form.Number fit.IsNumber refl number_is number_fits (λ x f. refl)
 
+-- a number, with its place
 pub placed_number_rule : Rule input.placed_number (λ z. at z.1 (form.Number z.0) ∷ []) (λ z. fit.IsNumber z.0) anything
 unfolding input.placed_number
 placed_number_rule = token_rule number_in form.Number fit.IsNumber refl number_is number_fits (λ x f. refl)
@@ -93,6 +96,7 @@ based_fits : (f : Form) (x : Literal) → fit.IsSoundForm f → based_in f ≡ S
 based_fits (form.Based n) x sound e = subst fit.IsLiteral (some_is n x e) sound
 based_fits f x sound e = absurd cc
 
+-- a based number, with its place
 pub placed_based_rule : Rule input.placed_based (λ z. at z.1 (form.Based z.0) ∷ []) (λ z. fit.IsLiteral z.0) anything
 unfolding input.placed_based
 placed_based_rule = token_rule based_in form.Based fit.IsLiteral refl based_is based_fits (λ x f. refl)
@@ -140,22 +144,27 @@ skipped_rule : (test : Form → Bool) (says : Form) → test form.Other ≡ fals
 skipped_rule test says other is back =
     bare_rule (λ f. where_true (test f)) (λ u. says) fit.IsFree (ap where_true other) (λ f u e. is f (where_holds (test f) u e)) (λ f u sound e. tt) (λ u free. back)
 
+-- a mark, with its place
 pub mark_rule : (byte : ℕ) → Rule (input.mark byte) (λ place. spell.placed_mark place byte ∷ []) fit.IsFree anything
 unfolding input.mark
 mark_rule byte = tested_rule (is_mark byte) (form.Mark byte) refl (mark_is byte) (mark_back byte)
 
+-- a mark
 pub skip_rule : (byte : ℕ) → Rule (input.skip byte) (λ u. spell.mark byte ∷ []) fit.IsFree anything
 unfolding input.skip
 skip_rule byte = skipped_rule (is_mark byte) (form.Mark byte) refl (mark_is byte) (mark_back byte)
 
+-- a word, with its place
 pub word_rule : (bytes : List ℕ) → Rule (input.word bytes) (λ place. spell.placed_word place bytes ∷ []) fit.IsFree anything
 unfolding input.word
 word_rule bytes = tested_rule (is_word bytes) (form.Word bytes) refl (word_is bytes) (word_back bytes)
 
+-- a word
 pub skip_word_rule : (bytes : List ℕ) → Rule (input.skip_word bytes) (λ u. spell.word bytes ∷ []) fit.IsFree anything
 unfolding input.skip_word
 skip_word_rule bytes = skipped_rule (is_word bytes) (form.Word bytes) refl (word_is bytes) (word_back bytes)
 
+-- the end of the text
 pub finish_rule : Rule input.finish (λ u. bare form.End ∷ []) fit.IsFree anything
 unfolding input.finish
 finish_rule = skipped_rule is_finish form.End refl finish_is refl
@@ -206,9 +215,11 @@ direction_back direction.Input = refl
 direction_back direction.Output = refl
 direction_back direction.Inout = refl
 
+-- a direction, with its place
 pub direction_rule : Rule (token stands.direction_in) (λ z. spell.placed_word z.1 (words.direction_word z.0) ∷ []) fit.IsFree anything
 direction_rule = chosen_rule stands.direction_of words.direction_word direction_named direction_back
 
+-- a direction
 pub bare_direction_rule : Rule ((λ z. z.0) <$> token stands.direction_in) (λ x. spell.word (words.direction_word x) ∷ []) fit.IsFree anything
 bare_direction_rule = bare_chosen_rule stands.direction_of words.direction_word direction_named direction_back
 
@@ -231,9 +242,11 @@ net_type_back net_type.Tri1 = refl
 net_type_back net_type.Supply0 = refl
 net_type_back net_type.Supply1 = refl
 
+-- a type of nets, with its place
 pub net_type_rule : Rule (token stands.net_type_in) (λ z. spell.placed_word z.1 (words.net_type_word z.0) ∷ []) fit.IsFree anything
 net_type_rule = chosen_rule stands.net_type_of words.net_type_word net_type_named net_type_back
 
+-- a type of nets
 pub bare_net_type_rule : Rule ((λ z. z.0) <$> token stands.net_type_in) (λ x. spell.word (words.net_type_word x) ∷ []) fit.IsFree anything
 bare_net_type_rule = bare_chosen_rule stands.net_type_of words.net_type_word net_type_named net_type_back
 
@@ -248,9 +261,11 @@ unfolding stands.spread_of stands.spread_table
 spread_back spread.Vectored = refl
 spread_back spread.Scalared = refl
 
+-- a word before a range, with its place
 pub spread_rule : Rule (token stands.spread_in) (λ z. spell.placed_word z.1 (words.spread_word z.0) ∷ []) fit.IsFree anything
 spread_rule = chosen_rule stands.spread_of words.spread_word spread_named spread_back
 
+-- a word before a range
 pub bare_spread_rule : Rule ((λ z. z.0) <$> token stands.spread_in) (λ x. spell.word (words.spread_word x) ∷ []) fit.IsFree anything
 bare_spread_rule = bare_chosen_rule stands.spread_of words.spread_word spread_named spread_back
 
@@ -266,9 +281,11 @@ charge_back charge.Small = refl
 charge_back charge.Medium = refl
 charge_back charge.Large = refl
 
+-- a word for a charge, with its place
 pub charge_rule : Rule (token stands.charge_in) (λ z. spell.placed_word z.1 (words.charge_word z.0) ∷ []) fit.IsFree anything
 charge_rule = chosen_rule stands.charge_of words.charge_word charge_named charge_back
 
+-- a word for a charge
 pub bare_charge_rule : Rule ((λ z. z.0) <$> token stands.charge_in) (λ x. spell.word (words.charge_word x) ∷ []) fit.IsFree anything
 bare_charge_rule = bare_chosen_rule stands.charge_of words.charge_word charge_named charge_back
 
@@ -293,9 +310,11 @@ logic_back logic.Bufif1 = refl
 logic_back logic.Notif0 = refl
 logic_back logic.Notif1 = refl
 
+-- a logic gate, with its place
 pub logic_rule : Rule (token stands.logic_in) (λ z. spell.placed_word z.1 (words.logic_word z.0) ∷ []) fit.IsFree anything
 logic_rule = chosen_rule stands.logic_of words.logic_word logic_named logic_back
 
+-- a logic gate
 pub bare_logic_rule : Rule ((λ z. z.0) <$> token stands.logic_in) (λ x. spell.word (words.logic_word x) ∷ []) fit.IsFree anything
 bare_logic_rule = bare_chosen_rule stands.logic_of words.logic_word logic_named logic_back
 
@@ -318,9 +337,11 @@ switch_back switch.Tranif1 = refl
 switch_back switch.Rtranif0 = refl
 switch_back switch.Rtranif1 = refl
 
+-- a switch, with its place
 pub switch_rule : Rule (token stands.switch_in) (λ z. spell.placed_word z.1 (words.switch_word z.0) ∷ []) fit.IsFree anything
 switch_rule = chosen_rule stands.switch_of words.switch_word switch_named switch_back
 
+-- a switch
 pub bare_switch_rule : Rule ((λ z. z.0) <$> token stands.switch_in) (λ x. spell.word (words.switch_word x) ∷ []) fit.IsFree anything
 bare_switch_rule = bare_chosen_rule stands.switch_of words.switch_word switch_named switch_back
 
@@ -335,9 +356,11 @@ unfolding stands.tran_of stands.tran_table
 tran_back tran.Tran = refl
 tran_back tran.Rtran = refl
 
+-- a pass gate, with its place
 pub tran_rule : Rule (token stands.tran_in) (λ z. spell.placed_word z.1 (words.tran_word z.0) ∷ []) fit.IsFree anything
 tran_rule = chosen_rule stands.tran_of words.tran_word tran_named tran_back
 
+-- a pass gate
 pub bare_tran_rule : Rule ((λ z. z.0) <$> token stands.tran_in) (λ x. spell.word (words.tran_word x) ∷ []) fit.IsFree anything
 bare_tran_rule = bare_chosen_rule stands.tran_of words.tran_word tran_named tran_back
 
@@ -352,9 +375,11 @@ unfolding stands.pull_of stands.pull_table
 pull_back pull.Pullup = refl
 pull_back pull.Pulldown = refl
 
+-- a pull gate, with its place
 pub pull_rule : Rule (token stands.pull_in) (λ z. spell.placed_word z.1 (words.pull_word z.0) ∷ []) fit.IsFree anything
 pull_rule = chosen_rule stands.pull_of words.pull_word pull_named pull_back
 
+-- a pull gate
 pub bare_pull_rule : Rule ((λ z. z.0) <$> token stands.pull_in) (λ x. spell.word (words.pull_word x) ∷ []) fit.IsFree anything
 bare_pull_rule = bare_chosen_rule stands.pull_of words.pull_word pull_named pull_back
 
@@ -369,9 +394,11 @@ unfolding stands.opening_of stands.opening_table
 opening_back opening.Module = refl
 opening_back opening.Macromodule = refl
 
+-- a word that opens a module, with its place
 pub opening_rule : Rule (token stands.opening_in) (λ z. spell.placed_word z.1 (words.opening_word z.0) ∷ []) fit.IsFree anything
 opening_rule = chosen_rule stands.opening_of words.opening_word opening_named opening_back
 
+-- a word that opens a module
 pub bare_opening_rule : Rule ((λ z. z.0) <$> token stands.opening_in) (λ x. spell.word (words.opening_word x) ∷ []) fit.IsFree anything
 bare_opening_rule = bare_chosen_rule stands.opening_of words.opening_word opening_named opening_back
 
@@ -398,8 +425,10 @@ strength_back Highz true = refl
 pub level_back : (x : Level) → stands.level_of (words.level_word x) ≡ Some x
 level_back x = strength_back x.strength x.of_one
 
+-- a level, with its place
 pub level_rule : Rule (token stands.level_in) (λ z. spell.placed_word z.1 (words.level_word z.0) ∷ []) fit.IsFree anything
 level_rule = chosen_rule stands.level_of words.level_word level_named level_back
 
+-- a level
 pub bare_level_rule : Rule ((λ z. z.0) <$> token stands.level_in) (λ x. spell.word (words.level_word x) ∷ []) fit.IsFree anything
 bare_level_rule = bare_chosen_rule stands.level_of words.level_word level_named level_back
