@@ -1,32 +1,192 @@
 -- Rules of drives, charges and delays.
-use Rattle.std.proofs.Common.{◌≡◌, ℕ, zero, suc, ◌+◌, ◌<◌, Bool, true, false, not, ◌&&◌, List, [], ◌∷◌, ◌++◌, length, Option, Some, None, codes}
+use Rattle.std.proofs.Common.{◌≡◌, ℕ, ◌<◌, true, not, List, [], ◌∷◌, ◌++◌, length, Option, Some, None, is_some, ◌⊎◌, inl, inr, refl, sym, ap, subst, arith}
 use Rattle.v_tree.specs.declared.places.Place.{Place}
-use Rattle.v_tree.specs.Written.{Form, Written, at, bare, written_if_there, behind_commas, between_commas, one_by_one}
-use Rattle.v_tree.specs.Written as form
+use Rattle.v_tree.specs.declared.drives.Level.{Level}
+use Rattle.v_tree.specs.declared.drives.Drive.{Drive}
+use Rattle.v_tree.specs.declared.drives.PullLevels.{PullLevels}
+use Rattle.v_tree.specs.declared.drives.Charge.{Charge}
+use Rattle.v_tree.specs.declared.drives.DelayValue.{DelayValue}
+use Rattle.v_tree.specs.declared.drives.DelayValue.TheVariants.{One, Three}
+use Rattle.v_tree.specs.declared.drives.Delay.{Delay}
+use Rattle.v_tree.specs.declared.drives.Delay.TheVariants as delays
+use Rattle.v_tree.specs.declared.drives.DelaySpec.{DelaySpec}
+use Rattle.v_tree.specs.Written.{Written, written_if_there}
 use Rattle.v_tree.specs.Fit as fit
 use Rattle.v_tree.specs.Words as words
 use Rattle.v_tree.specs.Spelling as spell
-use Rattle.v_parser.specs.Input.{Reader, token, is_mark}
-use Rattle.v_parser.specs.Input as input
-use Rattle.v_tree.specs.declared.drives.Drive.{Drive}
-use Rattle.v_tree.specs.declared.drives.PullLevels.{PullLevels}
+use Rattle.v_parser.specs.Input.{is_mark, ◌<$>◌, number, choice}
+use Rattle.v_parser.specs.Expressions.{sees_mark, sees_number}
 use Rattle.v_parser.specs.Drives as read
-use Rattle.v_parser.proofs.Rules.{Rule, Follow, anything, begins, first_form}
+use Rattle.v_parser.proofs.Rules.{Rule, Follow, anything, begins, first_form, map_rule, variant_rule, refit_rule, pair_rule, optional_rule, choice_rule, separated_rule}
+use Rattle.v_parser.proofs.TokenRules.{mark_rule, skip_rule, number_rule, bare_level_rule, bare_charge_rule, level_back}
 
+-- a part that has nothing to keep keeps nothing where it isn't there
+pub free_if_there : {A : Type 0} (o : Option A) → fit.IsFitIfThere fit.IsFree o
+free_if_there None = tt
+free_if_there (Some x) = tt
+
+-- ---- levels
+
+-- a level
+pub level_rule : Rule read.level (λ l. spell.level l ∷ []) fit.IsFree anything
+unfolding read.level
+level_rule = bare_level_rule
+
+abbrev drive_parts : Drive → Place × (Level × (Unit {0} × (Level × Unit {0})))
+drive_parts d = (d.place, (d.first, (tt, (d.second, tt))))
+
+-- `( level , level )`
 pub drive_rule : Rule read.drive spell.drive fit.IsFree anything
-drive_rule = ?
+unfolding read.drive
+drive_rule =
+    refit_rule (map_rule (pair_rule (mark_rule 40) (pair_rule level_rule (pair_rule (skip_rule 44) (pair_rule level_rule (skip_rule 41)
+        (λ y ws f g. refl)) (λ y ws f g. refl)) (λ y ws f g. refl)) (λ y ws f g. refl))
+        read.drive_of drive_parts (λ b. refl) (λ a. refl))
+        (λ x f. tt) (λ x f. (tt, (tt, (tt, (tt, tt)))))
 
+abbrev second_parts : Level → Unit {0} × Level
+second_parts l = (tt, l)
+
+-- `, level`
+second_level_rule : Rule read.second_level spell.second_level fit.IsFree anything
+unfolding read.second_level
+second_level_rule =
+    refit_rule (map_rule (pair_rule (skip_rule 44) level_rule (λ y ws f g. refl)) (λ (z : Unit {0} × Level). z.1) second_parts (λ b. refl) (λ a. refl))
+        (λ x f. tt) (λ x f. (tt, tt))
+
+abbrev pull_parts : PullLevels → Place × (Level × (Option Level × Unit {0}))
+pull_parts p = (p.place, (p.first, (p.second, tt)))
+
+-- `( level )` or `( level , level )`
 pub pull_levels_rule : Rule read.pull_levels spell.pull_levels fit.IsFree anything
-pull_levels_rule = ?
+unfolding read.pull_levels
+pull_levels_rule =
+    refit_rule (map_rule (pair_rule (mark_rule 40) (pair_rule level_rule (pair_rule (optional_rule (sees_mark 44) second_level_rule (λ x ws f. refl)) (skip_rule 41)
+        (λ y ws f g. refl)) (λ y ws f g. refl)) (λ y ws f g. refl))
+        read.pull_of pull_parts (λ b. refl) (λ a. refl))
+        (λ x f. tt) (λ x f. (tt, (tt, (free_if_there x.second, tt))))
 
-pub charge_rule : Rule read.charge spell.charge fit.IsFree anything
-charge_rule = ?
-
-pub delay_spec_rule : Rule read.delay_spec spell.delay_spec fit.IsFitDelaySpec anything
-delay_spec_rule = ?
-
+-- a drive begins with `(` and a level
 pub drive_begins : (d : Drive) (ws : List Written) → begins read.sees_drive (spell.drive d ++ ws) ≡ true
-drive_begins = ?
+drive_begins d ws = ap is_some (level_back d.first)
 
+-- levels of a pull begin with `(` and a level
 pub pull_begins : (p : PullLevels) (ws : List Written) → begins read.sees_drive (spell.pull_levels p ++ ws) ≡ true
-pull_begins = ?
+pull_begins p ws = ap is_some (level_back p.first)
+
+-- ---- charges
+
+-- a word for a charge
+charge_named_rule : Rule read.charge_named (λ c. spell.word (words.charge_word c) ∷ []) fit.IsFree anything
+unfolding read.charge_named
+charge_named_rule = bare_charge_rule
+
+abbrev charge_parts : Charge → Unit {0} × (Charge × Unit {0})
+charge_parts c = (tt, (c, tt))
+
+-- `( charge )`
+pub charge_rule : Rule read.charge spell.charge fit.IsFree anything
+unfolding read.charge
+charge_rule =
+    refit_rule (map_rule (pair_rule (skip_rule 40) (pair_rule charge_named_rule (skip_rule 41) (λ y ws f g. refl)) (λ y ws f g. refl))
+        (λ (z : Unit {0} × (Charge × Unit {0})). z.1.0) charge_parts (λ b. refl) (λ a. refl))
+        (λ x f. tt) (λ x f. (tt, (tt, tt)))
+
+-- ---- delays
+
+abbrev others : ℕ × ℕ → List Written
+others z = spell.mark 58 ∷ spell.number z.0 ∷ spell.mark 58 ∷ spell.number z.1 ∷ []
+
+abbrev AreNumbers : ℕ × ℕ → Type 0
+AreNumbers z = fit.IsNumber z.0 × fit.IsNumber z.1
+
+abbrev others_of : Unit {0} × (ℕ × (Unit {0} × ℕ)) → ℕ × ℕ
+others_of z = (z.1.0, z.1.1.1)
+
+abbrev others_parts : ℕ × ℕ → Unit {0} × (ℕ × (Unit {0} × ℕ))
+others_parts z = (tt, (z.0, (tt, z.1)))
+
+-- `: number : number`
+other_values_rule : Rule read.other_values others AreNumbers anything
+unfolding read.other_values
+other_values_rule =
+    refit_rule (map_rule (pair_rule (skip_rule 58) (pair_rule number_rule (pair_rule (skip_rule 58) number_rule (λ y ws f g. refl)) (λ y ws f g. refl)) (λ y ws f g. refl))
+        others_of others_parts (λ b. refl) (λ a. refl))
+        (λ x f. (f.1.0, f.1.1.1)) (λ x f. (tt, (f.0, (tt, f.1))))
+
+-- no `:` is next
+abbrev no_colon : Follow
+no_colon ws = not (is_mark 58 (first_form ws))
+
+abbrev value_of : ℕ × Option (ℕ × ℕ) → DelayValue
+value_of z = read.delay_value_with z.0 z.1
+
+-- a value is written as its numbers
+value_written : (n : ℕ) (o : Option (ℕ × ℕ)) → spell.delay_value (value_of (n, o)) ≡ spell.number n ∷ written_if_there others o
+value_written n None = refl
+value_written n (Some z) = refl
+
+-- a value keeps what its numbers keep
+value_fits : (n : ℕ) (o : Option (ℕ × ℕ)) → fit.IsNumber n → fit.IsFitIfThere AreNumbers o → fit.IsFitDelayValue (value_of (n, o))
+value_fits n None f g = f
+value_fits n (Some z) f g = (f, g.0, g.1)
+
+-- a value that fits is made of numbers that fit
+value_from : (x : DelayValue) → fit.IsFitDelayValue x → (a : ℕ × Option (ℕ × ℕ)) × (x ≡ value_of a) × (fit.IsNumber a.0 × fit.IsFitIfThere AreNumbers a.1)
+value_from (One n) f = ((n, None), refl, (f, tt))
+value_from (Three a b c) f = ((a, Some (b, c)), refl, (f.0, (f.1, f.2)))
+
+-- a number, or three with `:` between
+delay_value_rule : Rule read.delay_value spell.delay_value fit.IsFitDelayValue no_colon
+unfolding read.delay_value
+delay_value_rule =
+    refit_rule (variant_rule (pair_rule number_rule (optional_rule (sees_mark 58) other_values_rule (λ x ws f. refl)) (λ y ws f g. refl))
+        value_of spell.delay_value (λ a. value_written a.0 a.1))
+        (λ x f. subst fit.IsFitDelayValue (sym f.1) (value_fits f.0.0 f.0.1 f.2.0 f.2.1))
+        value_from
+
+-- a value is written with something
+value_some : (x : DelayValue) → fit.IsFitDelayValue x → 0 < length (spell.delay_value x)
+value_some (One n) f = omega arith
+value_some (Three a b c) f = omega arith
+
+abbrev AreValues : Delay → Type 0
+AreValues x = (z : Unit {0} × (List DelayValue × Unit {0})) × (x ≡ delays.Values z.1.0) × (Unit {0} × (fit.AreSome fit.IsFitDelayValue z.1.0 × Unit {0}))
+
+-- `( value , .. )`
+delay_values_rule : Rule read.delay_values spell.delay AreValues anything
+unfolding read.delay_values
+delay_values_rule =
+    variant_rule (pair_rule (skip_rule 40) (pair_rule (separated_rule delay_value_rule value_some (λ ws. refl)) (skip_rule 41) (λ y ws f g. refl)) (λ y ws f g. refl))
+        (λ (z : Unit {0} × (List DelayValue × Unit {0})). delays.Values z.1.0) spell.delay (λ a. refl)
+
+abbrev IsOneNumber : Delay → Type 0
+IsOneNumber x = (n : ℕ) × (x ≡ delays.Number n) × fit.IsNumber n
+
+-- a delay that was read fits
+delay_fits : (x : Delay) → IsOneNumber x ⊎ AreValues x → fit.IsFitDelay x
+delay_fits x (inl f) = subst fit.IsFitDelay (sym f.1) f.2
+delay_fits x (inr f) = subst fit.IsFitDelay (sym f.1) f.2.1.0
+
+-- a delay that fits is one of the two
+delay_from : (x : Delay) → fit.IsFitDelay x → IsOneNumber x ⊎ AreValues x
+delay_from (delays.Number n) f = inl (n, refl, f)
+delay_from (delays.Values values) f = inr ((tt, (values, tt)), refl, (tt, (f, tt)))
+
+-- a number or values
+delay_rule : Rule (choice sees_number (delays.Number <$> number) read.delay_values) spell.delay fit.IsFitDelay anything
+delay_rule =
+    refit_rule (choice_rule sees_number (variant_rule number_rule delays.Number spell.delay (λ a. refl)) delay_values_rule
+        (λ x ws f g. ap (λ (d : Delay). begins sees_number (spell.delay d ++ ws)) f.1)
+        (λ x ws f g. ap (λ (d : Delay). begins sees_number (spell.delay d ++ ws)) f.1))
+        delay_fits delay_from
+
+abbrev spec_parts : DelaySpec → Place × Delay
+spec_parts d = (d.place, d.delay)
+
+-- `# number` or `# ( value , .. )`
+pub delay_spec_rule : Rule read.delay_spec spell.delay_spec fit.IsFitDelaySpec anything
+unfolding read.delay_spec
+delay_spec_rule =
+    refit_rule (map_rule (pair_rule (mark_rule 35) delay_rule (λ y ws f g. refl)) read.delay_of spec_parts (λ b. refl) (λ a. refl))
+        (λ x f. f.1) (λ x f. (tt, f))
