@@ -87,17 +87,17 @@ pub port_decl_rule : Rule read.port_decl spell.port_decl fit.IsFitPortDecl anyth
 unfolding read.port_decl
 port_decl_rule =
     refit_rule (map_rule (pair_rule direction_rule
-        (pair_rule (optional_rule sees_net_type net_type_rule (λ x ws f. net_type_begins x ws))
-        (pair_rule (optional_rule (sees_mark 91) range_rule (λ x ws f. refl))
-        (pair_rule (separated_rule name_rule (λ x f. omega arith) (λ ws. refl)) (skip_rule 59)
-            (λ y ws f g. refl))
-            (λ y ws f g. names_begin no_range y.0 (spell.mark 59 ∷ []) ws f.0 (λ n vs. refl)))
-            (λ y ws f g. may_skip no_net_type spell.range y.0 (between_commas spell.name y.1.0 ++ spell.mark 59 ∷ []) ws (λ x. refl)
-                (names_begin no_net_type y.1.0 (spell.mark 59 ∷ []) ws f.1.0 (λ n vs. refl))))
-            (λ y ws f g. refl))
-        read.port_decl_of port_parts (λ b. refl) (λ a. refl))
-        (λ x f. record { range = f.1.1.0; names = f.1.1.1.0 })
-        (λ x f. (tt, (free_if_there x.net_type, (f.range, (f.names, tt)))))
+    (pair_rule (optional_rule sees_net_type net_type_rule (λ x ws f. net_type_begins x ws))
+    (pair_rule (optional_rule (sees_mark 91) range_rule (λ x ws f. refl))
+    (pair_rule (separated_rule name_rule (λ x f. omega arith) (λ ws. refl)) (skip_rule 59)
+    (λ y ws f g. refl))
+    (λ y ws f g. names_begin no_range y.0 (spell.mark 59 ∷ []) ws f.0 (λ n vs. refl)))
+    (λ y ws f g. may_skip no_net_type spell.range y.0 (between_commas spell.name y.1.0 ++ spell.mark 59 ∷ []) ws (λ x. refl)
+    (names_begin no_net_type y.1.0 (spell.mark 59 ∷ []) ws f.1.0 (λ n vs. refl))))
+    (λ y ws f g. refl))
+    read.port_decl_of port_parts (λ b. refl) (λ a. refl))
+    (λ x f. record { range = f.1.1.0; names = f.1.1.1.0 })
+    (λ x f. (tt, (free_if_there x.net_type, (f.range, (f.names, tt)))))
 
 -- ---- spreads
 
@@ -114,8 +114,8 @@ pub spread_rule : Rule read.spread spell.spread fit.IsFitSpread anything
 unfolding read.spread
 spread_rule =
     refit_rule (map_rule (pair_rule (optional_rule sees_spread spread_named_rule (λ x ws f. ap is_some (spread_back x))) range_rule (λ y ws f g. refl))
-        read.spread_of spread_parts (λ b. refl) (λ a. refl))
-        (λ x f. f.1) (λ x f. (free_if_there x.word, f))
+    read.spread_of spread_parts (λ b. refl) (λ a. refl))
+    (λ x f. f.1) (λ x f. (free_if_there x.word, f))
 
 -- a word before a range or none is seen
 word_begins : (o : Option SpreadWord) (r : Range) (ws : List Written) → begins begins_spread ((written_if_there spell.spread_before o ++ spell.range r) ++ ws) ≡ true
@@ -136,7 +136,7 @@ valued_name_rule : Rule read.valued_name spell.valued_name fit.IsFitValuedName n
 unfolding read.valued_name
 valued_name_rule =
     refit_rule (map_rule (pair_rule name_rule (pair_rule (skip_rule 61) expr_rule (λ y ws f g. refl)) (λ y ws f g. refl)) read.valued_of valued_parts (λ b. refl) (λ a. refl))
-        (λ x f. (f.0, f.1.1)) (λ x f. (f.0, (tt, f.1)))
+    (λ x f. (f.0, f.1.1)) (λ x f. (f.0, (tt, f.1)))
 
 -- no `[`, `,` or `=` is next
 abbrev pub no_more : Follow
@@ -192,24 +192,24 @@ declared_from (kind.Names names) f = inr (names, refl, f)
 valued_rule : Rule (kind.Valued <$> separated read.valued_name) spell.declared AreValued no_more
 valued_rule =
     follow_rule (variant_rule (separated_rule valued_name_rule (λ x f. omega arith) (λ ws. refl)) kind.Valued spell.declared (λ a. refl))
-        (λ ws h. less_bracket (no_bracket ws) (no_comma ws) (not (is_mark 61 (first_form ws))) h)
+    (λ ws h. less_bracket (no_bracket ws) (no_comma ws) (not (is_mark 61 (first_form ws))) h)
 
 -- names alone
 names_rule : Rule (kind.Names <$> separated name) spell.declared AreNames no_more
 names_rule =
     follow_rule (variant_rule (separated_rule name_rule (λ x f. omega arith) (λ ws. refl)) kind.Names spell.declared (λ a. refl))
-        (λ ws h. less_comma (no_bracket ws) (no_comma ws) (not (is_mark 61 (first_form ws))) h)
+    (λ ws h. less_comma (no_bracket ws) (no_comma ws) (not (is_mark 61 (first_form ws))) h)
 
 -- names alone, or names with values
 pub declared_rule : Rule read.declared spell.declared fit.IsFitDeclared no_more
 unfolding read.declared
 declared_rule =
     refit_rule (follow_rule (choice_rule sees_value valued_rule names_rule
-        (λ x ws f g. ap (λ (d : Declared). begins sees_value (spell.declared d ++ ws)) f.1 ∙ valued_seen f.0 ws f.2)
-        (λ x ws f g. ap (λ (d : Declared). begins sees_value (spell.declared d ++ ws)) f.1
-            ∙ names_seen f.0 ws f.2 (less_value (no_bracket ws) (no_comma ws) (is_mark 61 (first_form ws)) g)))
-        (λ ws h. and_from (no_more ws) (no_more ws) h h))
-        declared_fits declared_from
+    (λ x ws f g. ap (λ (d : Declared). begins sees_value (spell.declared d ++ ws)) f.1 ∙ valued_seen f.0 ws f.2)
+    (λ x ws f g. ap (λ (d : Declared). begins sees_value (spell.declared d ++ ws)) f.1
+    ∙ names_seen f.0 ws f.2 (less_value (no_bracket ws) (no_comma ws) (is_mark 61 (first_form ws)) g)))
+    (λ ws h. and_from (no_more ws) (no_more ws) h h))
+    declared_fits declared_from
 
 -- names, with values or without, begin with a name
 declared_begins : (follow : Follow) (d : Declared) (rest ws : List Written) → fit.IsFitDeclared d → ((n : Name) (vs : List Written) → follow (spell.name n ++ vs) ≡ true)
@@ -245,23 +245,23 @@ pub net_decl_rule : Rule read.net_decl spell.net_decl fit.IsFitNetDecl anything
 unfolding read.net_decl
 net_decl_rule =
     refit_rule (map_rule (pair_rule token.net_type_rule
-        (pair_rule (optional_rule (sees_mark 40) drive_rule (λ x ws f. refl))
-        (pair_rule (optional_rule begins_spread spread_rule (λ x ws f. spread_begins x ws))
-        (pair_rule (optional_rule (sees_mark 35) delay_spec_rule (λ x ws f. refl))
-        (pair_rule declared_rule (skip_rule 59)
-            (λ y ws f g. refl))
-            (λ y ws f g. declared_begins no_delay y.0 (spell.mark 59 ∷ []) ws f.0 (λ n vs. refl)))
-            (λ y ws f g. may_skip no_spread spell.delay_spec y.0 (spell.declared y.1.0 ++ spell.mark 59 ∷ []) ws (λ x. refl)
-                (declared_begins no_spread y.1.0 (spell.mark 59 ∷ []) ws f.1.0 (λ n vs. refl))))
-            (λ y ws f g.
-                let after : List Written = spell.declared y.1.1.0 ++ spell.mark 59 ∷ [] in
-                may_skip no_paren spell.spread y.0 (written_if_there spell.delay_spec y.1.0 ++ after) ws (λ x. word_no_paren x.word x.range (written_if_there spell.delay_spec y.1.0 ++ after) ws)
-                (may_skip no_paren spell.delay_spec y.1.0 after ws (λ x. refl)
-                (declared_begins no_paren y.1.1.0 (spell.mark 59 ∷ []) ws f.1.1.0 (λ n vs. refl)))))
-            (λ y ws f g. refl))
-        read.net_decl_of net_parts (λ b. refl) (λ a. refl))
-        (λ x f. record { spread = f.1.1.0; delay = f.1.1.1.0; declared = f.1.1.1.1.0 })
-        (λ x f. (tt, (free_if_there x.drive, (f.spread, (f.delay, (f.declared, tt))))))
+    (pair_rule (optional_rule (sees_mark 40) drive_rule (λ x ws f. refl))
+    (pair_rule (optional_rule begins_spread spread_rule (λ x ws f. spread_begins x ws))
+    (pair_rule (optional_rule (sees_mark 35) delay_spec_rule (λ x ws f. refl))
+    (pair_rule declared_rule (skip_rule 59)
+    (λ y ws f g. refl))
+    (λ y ws f g. declared_begins no_delay y.0 (spell.mark 59 ∷ []) ws f.0 (λ n vs. refl)))
+    (λ y ws f g. may_skip no_spread spell.delay_spec y.0 (spell.declared y.1.0 ++ spell.mark 59 ∷ []) ws (λ x. refl)
+    (declared_begins no_spread y.1.0 (spell.mark 59 ∷ []) ws f.1.0 (λ n vs. refl))))
+    (λ y ws f g.
+    let after : List Written = spell.declared y.1.1.0 ++ spell.mark 59 ∷ [] in
+    may_skip no_paren spell.spread y.0 (written_if_there spell.delay_spec y.1.0 ++ after) ws (λ x. word_no_paren x.word x.range (written_if_there spell.delay_spec y.1.0 ++ after) ws)
+    (may_skip no_paren spell.delay_spec y.1.0 after ws (λ x. refl)
+    (declared_begins no_paren y.1.1.0 (spell.mark 59 ∷ []) ws f.1.1.0 (λ n vs. refl)))))
+    (λ y ws f g. refl))
+    read.net_decl_of net_parts (λ b. refl) (λ a. refl))
+    (λ x f. record { spread = f.1.1.0; delay = f.1.1.1.0; declared = f.1.1.1.1.0 })
+    (λ x f. (tt, (free_if_there x.drive, (f.spread, (f.delay, (f.declared, tt))))))
 
 abbrev trireg_parts : TriregDecl → Place × (Option Charge × (Option Spread × (Option DelaySpec × (List Name × Unit {0}))))
 trireg_parts d = (d.place, (d.charge, (d.spread, (d.delay, (d.names, tt)))))
@@ -271,23 +271,23 @@ pub trireg_decl_rule : Rule read.trireg_decl spell.trireg_decl fit.IsFitTriregDe
 unfolding read.trireg_decl
 trireg_decl_rule =
     refit_rule (map_rule (pair_rule (word_rule (codes "trireg"))
-        (pair_rule (optional_rule (sees_mark 40) charge_rule (λ x ws f. refl))
-        (pair_rule (optional_rule begins_spread spread_rule (λ x ws f. spread_begins x ws))
-        (pair_rule (optional_rule (sees_mark 35) delay_spec_rule (λ x ws f. refl))
-        (pair_rule (separated_rule name_rule (λ x f. omega arith) (λ ws. refl)) (skip_rule 59)
-            (λ y ws f g. refl))
-            (λ y ws f g. names_begin no_delay y.0 (spell.mark 59 ∷ []) ws f.0 (λ n vs. refl)))
-            (λ y ws f g. may_skip no_spread spell.delay_spec y.0 (between_commas spell.name y.1.0 ++ spell.mark 59 ∷ []) ws (λ x. refl)
-                (names_begin no_spread y.1.0 (spell.mark 59 ∷ []) ws f.1.0 (λ n vs. refl))))
-            (λ y ws f g.
-                let after : List Written = between_commas spell.name y.1.1.0 ++ spell.mark 59 ∷ [] in
-                may_skip no_paren spell.spread y.0 (written_if_there spell.delay_spec y.1.0 ++ after) ws (λ x. word_no_paren x.word x.range (written_if_there spell.delay_spec y.1.0 ++ after) ws)
-                (may_skip no_paren spell.delay_spec y.1.0 after ws (λ x. refl)
-                (names_begin no_paren y.1.1.0 (spell.mark 59 ∷ []) ws f.1.1.0 (λ n vs. refl)))))
-            (λ y ws f g. refl))
-        read.trireg_of trireg_parts (λ b. refl) (λ a. refl))
-        (λ x f. record { spread = f.1.1.0; delay = f.1.1.1.0; names = f.1.1.1.1.0 })
-        (λ x f. (tt, (free_if_there x.charge, (f.spread, (f.delay, (f.names, tt))))))
+    (pair_rule (optional_rule (sees_mark 40) charge_rule (λ x ws f. refl))
+    (pair_rule (optional_rule begins_spread spread_rule (λ x ws f. spread_begins x ws))
+    (pair_rule (optional_rule (sees_mark 35) delay_spec_rule (λ x ws f. refl))
+    (pair_rule (separated_rule name_rule (λ x f. omega arith) (λ ws. refl)) (skip_rule 59)
+    (λ y ws f g. refl))
+    (λ y ws f g. names_begin no_delay y.0 (spell.mark 59 ∷ []) ws f.0 (λ n vs. refl)))
+    (λ y ws f g. may_skip no_spread spell.delay_spec y.0 (between_commas spell.name y.1.0 ++ spell.mark 59 ∷ []) ws (λ x. refl)
+    (names_begin no_spread y.1.0 (spell.mark 59 ∷ []) ws f.1.0 (λ n vs. refl))))
+    (λ y ws f g.
+    let after : List Written = between_commas spell.name y.1.1.0 ++ spell.mark 59 ∷ [] in
+    may_skip no_paren spell.spread y.0 (written_if_there spell.delay_spec y.1.0 ++ after) ws (λ x. word_no_paren x.word x.range (written_if_there spell.delay_spec y.1.0 ++ after) ws)
+    (may_skip no_paren spell.delay_spec y.1.0 after ws (λ x. refl)
+    (names_begin no_paren y.1.1.0 (spell.mark 59 ∷ []) ws f.1.1.0 (λ n vs. refl)))))
+    (λ y ws f g. refl))
+    read.trireg_of trireg_parts (λ b. refl) (λ a. refl))
+    (λ x f. record { spread = f.1.1.0; delay = f.1.1.1.0; names = f.1.1.1.1.0 })
+    (λ x f. (tt, (free_if_there x.charge, (f.spread, (f.delay, (f.names, tt))))))
 
 -- ---- assignments
 
@@ -299,7 +299,7 @@ assign_pair_rule : Rule read.pair spell.pair fit.IsFitPair no_bracket
 unfolding read.pair
 assign_pair_rule =
     refit_rule (map_rule (pair_rule target_rule (pair_rule (skip_rule 61) expr_rule (λ y ws f g. refl)) (λ y ws f g. refl)) read.pair_of pair_parts (λ b. refl) (λ a. refl))
-        (λ x f. (f.0, f.1.1)) (λ x f. (f.0, (tt, f.1)))
+    (λ x f. (f.0, f.1.1)) (λ x f. (f.0, (tt, f.1)))
 
 -- an assignment is written with something
 pair_some : (p : Pair) → fit.IsFitPair p → 0 < length (spell.pair p)
@@ -334,14 +334,14 @@ pub assign_item_rule : Rule read.assign_item spell.assign_item fit.IsFitAssignIt
 unfolding read.assign_item
 assign_item_rule =
     refit_rule (map_rule (pair_rule (word_rule (codes "assign"))
-        (pair_rule (optional_rule (sees_mark 40) drive_rule (λ x ws f. refl))
-        (pair_rule (optional_rule (sees_mark 35) delay_spec_rule (λ x ws f. refl))
-        (pair_rule (separated_rule assign_pair_rule pair_some (λ ws. refl)) (skip_rule 59)
-            (λ y ws f g. refl))
-            (λ y ws f g. pairs_begin 35 y.0 (spell.mark 59 ∷ []) ws refl f.0))
-            (λ y ws f g. may_skip no_paren spell.delay_spec y.0 (between_commas spell.pair y.1.0 ++ spell.mark 59 ∷ []) ws (λ x. refl)
-                (pairs_begin 40 y.1.0 (spell.mark 59 ∷ []) ws refl f.1.0)))
-            (λ y ws f g. refl))
-        read.assign_of assign_parts (λ b. refl) (λ a. refl))
-        (λ x f. record { delay = f.1.1.0; pairs = f.1.1.1.0 })
-        (λ x f. (tt, (free_if_there x.drive, (f.delay, (f.pairs, tt)))))
+    (pair_rule (optional_rule (sees_mark 40) drive_rule (λ x ws f. refl))
+    (pair_rule (optional_rule (sees_mark 35) delay_spec_rule (λ x ws f. refl))
+    (pair_rule (separated_rule assign_pair_rule pair_some (λ ws. refl)) (skip_rule 59)
+    (λ y ws f g. refl))
+    (λ y ws f g. pairs_begin 35 y.0 (spell.mark 59 ∷ []) ws refl f.0))
+    (λ y ws f g. may_skip no_paren spell.delay_spec y.0 (between_commas spell.pair y.1.0 ++ spell.mark 59 ∷ []) ws (λ x. refl)
+    (pairs_begin 40 y.1.0 (spell.mark 59 ∷ []) ws refl f.1.0)))
+    (λ y ws f g. refl))
+    read.assign_of assign_parts (λ b. refl) (λ a. refl))
+    (λ x f. record { delay = f.1.1.0; pairs = f.1.1.1.0 })
+    (λ x f. (tt, (free_if_there x.drive, (f.delay, (f.pairs, tt)))))

@@ -40,9 +40,9 @@ pub drive_rule : Rule read.drive spell.drive fit.IsFree anything
 unfolding read.drive
 drive_rule =
     refit_rule (map_rule (pair_rule (mark_rule 40) (pair_rule level_rule (pair_rule (skip_rule 44) (pair_rule level_rule (skip_rule 41)
-        (λ y ws f g. refl)) (λ y ws f g. refl)) (λ y ws f g. refl)) (λ y ws f g. refl))
-        read.drive_of drive_parts (λ b. refl) (λ a. refl))
-        (λ x f. tt) (λ x f. (tt, (tt, (tt, (tt, tt)))))
+    (λ y ws f g. refl)) (λ y ws f g. refl)) (λ y ws f g. refl)) (λ y ws f g. refl))
+    read.drive_of drive_parts (λ b. refl) (λ a. refl))
+    (λ x f. tt) (λ x f. (tt, (tt, (tt, (tt, tt)))))
 
 abbrev second_parts : Level → Unit {0} × Level
 second_parts l = (tt, l)
@@ -52,7 +52,7 @@ second_level_rule : Rule read.second_level spell.second_level fit.IsFree anythin
 unfolding read.second_level
 second_level_rule =
     refit_rule (map_rule (pair_rule (skip_rule 44) level_rule (λ y ws f g. refl)) (λ (z : Unit {0} × Level). z.1) second_parts (λ b. refl) (λ a. refl))
-        (λ x f. tt) (λ x f. (tt, tt))
+    (λ x f. tt) (λ x f. (tt, tt))
 
 abbrev pull_parts : PullLevels → Place × (Level × (Option Level × Unit {0}))
 pull_parts p = (p.place, (p.first, (p.second, tt)))
@@ -62,9 +62,9 @@ pub pull_levels_rule : Rule read.pull_levels spell.pull_levels fit.IsFree anythi
 unfolding read.pull_levels
 pull_levels_rule =
     refit_rule (map_rule (pair_rule (mark_rule 40) (pair_rule level_rule (pair_rule (optional_rule (sees_mark 44) second_level_rule (λ x ws f. refl)) (skip_rule 41)
-        (λ y ws f g. refl)) (λ y ws f g. refl)) (λ y ws f g. refl))
-        read.pull_of pull_parts (λ b. refl) (λ a. refl))
-        (λ x f. tt) (λ x f. (tt, (tt, (free_if_there x.second, tt))))
+    (λ y ws f g. refl)) (λ y ws f g. refl)) (λ y ws f g. refl))
+    read.pull_of pull_parts (λ b. refl) (λ a. refl))
+    (λ x f. tt) (λ x f. (tt, (tt, (free_if_there x.second, tt))))
 
 -- a drive begins with `(` and a level
 pub drive_begins : (d : Drive) (ws : List Written) → begins read.sees_drive (spell.drive d ++ ws) ≡ true
@@ -89,8 +89,8 @@ pub charge_rule : Rule read.charge spell.charge fit.IsFree anything
 unfolding read.charge
 charge_rule =
     refit_rule (map_rule (pair_rule (skip_rule 40) (pair_rule charge_named_rule (skip_rule 41) (λ y ws f g. refl)) (λ y ws f g. refl))
-        (λ (z : Unit {0} × (Charge × Unit {0})). z.1.0) charge_parts (λ b. refl) (λ a. refl))
-        (λ x f. tt) (λ x f. (tt, (tt, tt)))
+    (λ (z : Unit {0} × (Charge × Unit {0})). z.1.0) charge_parts (λ b. refl) (λ a. refl))
+    (λ x f. tt) (λ x f. (tt, (tt, tt)))
 
 -- ---- delays
 
@@ -111,8 +111,8 @@ other_values_rule : Rule read.other_values others AreNumbers anything
 unfolding read.other_values
 other_values_rule =
     refit_rule (map_rule (pair_rule (skip_rule 58) (pair_rule number_rule (pair_rule (skip_rule 58) number_rule (λ y ws f g. refl)) (λ y ws f g. refl)) (λ y ws f g. refl))
-        others_of others_parts (λ b. refl) (λ a. refl))
-        (λ x f. (f.1.0, f.1.1.1)) (λ x f. (tt, (f.0, (tt, f.1))))
+    others_of others_parts (λ b. refl) (λ a. refl))
+    (λ x f. (f.1.0, f.1.1.1)) (λ x f. (tt, (f.0, (tt, f.1))))
 
 -- no `:` is next
 abbrev no_colon : Follow
@@ -141,9 +141,9 @@ delay_value_rule : Rule read.delay_value spell.delay_value fit.IsFitDelayValue n
 unfolding read.delay_value
 delay_value_rule =
     refit_rule (variant_rule (pair_rule number_rule (optional_rule (sees_mark 58) other_values_rule (λ x ws f. refl)) (λ y ws f g. refl))
-        value_of spell.delay_value (λ a. value_written a.0 a.1))
-        (λ x f. subst fit.IsFitDelayValue (sym f.1) (value_fits f.0.0 f.0.1 f.2.0 f.2.1))
-        value_from
+    value_of spell.delay_value (λ a. value_written a.0 a.1))
+    (λ x f. subst fit.IsFitDelayValue (sym f.1) (value_fits f.0.0 f.0.1 f.2.0 f.2.1))
+    value_from
 
 -- a value is written with something
 value_some : (x : DelayValue) → fit.IsFitDelayValue x → 0 < length (spell.delay_value x)
@@ -158,7 +158,7 @@ delay_values_rule : Rule read.delay_values spell.delay AreValues anything
 unfolding read.delay_values
 delay_values_rule =
     variant_rule (pair_rule (skip_rule 40) (pair_rule (separated_rule delay_value_rule value_some (λ ws. refl)) (skip_rule 41) (λ y ws f g. refl)) (λ y ws f g. refl))
-        (λ (z : Unit {0} × (List DelayValue × Unit {0})). delays.Values z.1.0) spell.delay (λ a. refl)
+    (λ (z : Unit {0} × (List DelayValue × Unit {0})). delays.Values z.1.0) spell.delay (λ a. refl)
 
 abbrev IsOneNumber : Delay → Type 0
 IsOneNumber x = (n : ℕ) × (x ≡ delays.Number n) × fit.IsNumber n
@@ -177,9 +177,9 @@ delay_from (delays.Values values) f = inr ((tt, (values, tt)), refl, (tt, (f, tt
 delay_rule : Rule (choice sees_number (delays.Number <$> number) read.delay_values) spell.delay fit.IsFitDelay anything
 delay_rule =
     refit_rule (choice_rule sees_number (variant_rule number_rule delays.Number spell.delay (λ a. refl)) delay_values_rule
-        (λ x ws f g. ap (λ (d : Delay). begins sees_number (spell.delay d ++ ws)) f.1)
-        (λ x ws f g. ap (λ (d : Delay). begins sees_number (spell.delay d ++ ws)) f.1))
-        delay_fits delay_from
+    (λ x ws f g. ap (λ (d : Delay). begins sees_number (spell.delay d ++ ws)) f.1)
+    (λ x ws f g. ap (λ (d : Delay). begins sees_number (spell.delay d ++ ws)) f.1))
+    delay_fits delay_from
 
 abbrev spec_parts : DelaySpec → Place × Delay
 spec_parts d = (d.place, d.delay)
@@ -189,4 +189,4 @@ pub delay_spec_rule : Rule read.delay_spec spell.delay_spec fit.IsFitDelaySpec a
 unfolding read.delay_spec
 delay_spec_rule =
     refit_rule (map_rule (pair_rule (mark_rule 35) delay_rule (λ y ws f g. refl)) read.delay_of spec_parts (λ b. refl) (λ a. refl))
-        (λ x f. f.1) (λ x f. (tt, f))
+    (λ x f. f.1) (λ x f. (tt, f))

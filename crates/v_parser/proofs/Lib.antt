@@ -8,3 +8,4 @@ pub mod DriveRules
 pub mod DeclarationRules
 pub mod GateRules
 pub mod ModuleRules
+pub mod Source

@@ -136,7 +136,7 @@ tested_rule : (test : Form → Bool) (says : Form) → test form.Other ≡ false
     → Rule ((λ (p : Unit {0} × Place). p.1) <$> token (λ f. where_true (test f))) (λ (place : Place). at place says ∷ []) fit.IsFree anything
 tested_rule test says other is back =
     map_rule (token_rule (λ f. where_true (test f)) (λ u. says) fit.IsFree (ap where_true other) (λ f u e. is f (where_holds (test f) u e)) (λ f u sound e. tt) (λ u free. back))
-        (λ (p : Unit {0} × Place). p.1) (λ (place : Place). (tt, place)) (λ b. refl) (λ a. refl)
+    (λ (p : Unit {0} × Place). p.1) (λ (place : Place). (tt, place)) (λ b. refl) (λ a. refl)
 
 -- a token that a test takes, without its place
 skipped_rule : (test : Form → Bool) (says : Form) → test form.Other ≡ false → ((f : Form) → test f ≡ true → f ≡ says) → where_true (test says) ≡ Some tt

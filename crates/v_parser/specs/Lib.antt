@@ -6,3 +6,4 @@ pub mod Drives
 pub mod Declarations
 pub mod Gates
 pub mod Modules
+pub mod Reading

@@ -9,6 +9,8 @@ mod fault;
 mod gates;
 mod lists;
 mod modules;
+mod parsing;
 mod words;
 
 pub use fault::ParseFault;
+pub use parsing::parse;
