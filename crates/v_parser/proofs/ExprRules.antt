@@ -132,28 +132,139 @@ atom_rule = refit_rule
         (λ ws follow. ap (λ (b : Bool). b && true) follow))
     (atom_of (λ parts. ⊥)) (λ e f. atom_by e (out-Expr e) refl f)
 
-pub expr_at_rule : (depth : ℕ) → Rule (read.expr_at depth) spell.expr (fit.IsFitExprAt depth) no_bracket
-expr_at_rule = ?
-
-pub target_at_rule : (depth : ℕ) → Rule (read.target_at depth) spell.target (fit.IsFitTargetAt depth) no_bracket
-target_at_rule = ?
-
 -- the first token of an expression
 abbrev pub begins_expr : Form → Bool
 begins_expr f = input.is_name f || input.is_number f || input.is_based f || is_mark 123 f
 
+-- each layer of an expression begins so, and has a token
+layer_begins : (o : Expr-F Expr) (ws : List Written) → begins_expr (first_form (spell.expr_layer (map-Expr Expr (List Written) spell.expr o) ++ ws)) ≡ true
+layer_begins (Expr-F.Pick p) ws = refl
+layer_begins (Expr-F.Number place n) ws = refl
+layer_begins (Expr-F.Based place literal) ws = refl
+layer_begins (Expr-F.Concat place parts) ws = refl
+
+layer_some : (o : Expr-F Expr) → 0 < length (spell.expr_layer (map-Expr Expr (List Written) spell.expr o))
+layer_some (Expr-F.Pick p) = omega arith
+layer_some (Expr-F.Number place n) = omega arith
+layer_some (Expr-F.Based place literal) = omega arith
+layer_some (Expr-F.Concat place parts) = omega arith
+
 pub expr_begins : (depth : ℕ) (e : Expr) (ws : List Written) → fit.IsFitExprAt depth e → begins_expr (first_form (spell.expr e ++ ws)) ≡ true
-expr_begins = ?
+expr_begins depth e ws f = ap (λ (vs : List Written). begins_expr (first_form (vs ++ ws))) (fold_out-Expr (List Written) spell.expr_layer e) ∙ layer_begins (out-Expr e) ws
 
 pub expr_some : (depth : ℕ) (e : Expr) → fit.IsFitExprAt depth e → 0 < length (spell.expr e)
-expr_some = ?
+expr_some depth e f = subst (λ (vs : List Written). 0 < length vs) (sym (fold_out-Expr (List Written) spell.expr_layer e)) (layer_some (out-Expr e))
+
+-- a concatenation of expressions
+abbrev IsConcat : (Expr → Type 0) → Expr → Type 0
+IsConcat IsPart e = (z : Place × (List Expr × Unit {0})) × (e ≡ expr.Concat z.0 z.1.0) × (fit.IsFree z.0 × (fit.AreSome IsPart z.1.0 × fit.IsFree z.1.1))
+
+-- an expression is a concatenation or an atom
+layer_of : (depth : ℕ) (e : Expr) → IsConcat (fit.IsFitExprAt depth) e ⊎ IsFitAtom e → fit.IsFitExprAt (suc depth) e
+layer_of depth e (inl f) = subst (fit.IsFitExprLayer (fit.AreSome (fit.IsFitExprAt depth))) (sym (ap out-Expr f.1 ∙ expr.outs-Concat f.0.0 f.0.1.0)) f.2.1.0
+layer_of depth e (inr f) = atom_of (fit.AreSome (fit.IsFitExprAt depth)) e (atom_by e (out-Expr e) refl f)
+
+layer_by : (depth : ℕ) (e : Expr) (o : Expr-F Expr) → out-Expr e ≡ o → fit.IsFitExprLayer (fit.AreSome (fit.IsFitExprAt depth)) o → IsConcat (fit.IsFitExprAt depth) e ⊎ fit.IsFitExprLayer (λ parts. ⊥) o
+layer_by depth e (Expr-F.Pick p) is f = inr f
+layer_by depth e (Expr-F.Number place n) is f = inr f
+layer_by depth e (Expr-F.Based place literal) is f = inr f
+layer_by depth e (Expr-F.Concat place parts) is f = inl ((place, (parts, tt)), made_of e (Expr-F.Concat place parts) (expr.Concat place parts) is (expr.rolls-Concat place parts), (tt, (f, tt)))
+
+-- an atom doesn't begin with a brace
+atom_begins : (o : Expr-F Expr) (ws : List Written) → fit.IsFitExprLayer (λ parts. ⊥) o → begins (sees_mark 123) (spell.expr_layer (map-Expr Expr (List Written) spell.expr o) ++ ws) ≡ false
+atom_begins (Expr-F.Pick p) ws f = refl
+atom_begins (Expr-F.Number place n) ws f = refl
+atom_begins (Expr-F.Based place literal) ws f = refl
+atom_begins (Expr-F.Concat place parts) ws f = absurd f
+
+pub expr_at_rule : (depth : ℕ) → Rule (read.expr_at depth) spell.expr (fit.IsFitExprAt depth) no_bracket
+unfolding expr_at
+expr_at_rule zero = atom_rule
+expr_at_rule (suc depth) = refit_rule
+    (choice_rule (sees_mark 123)
+        (variant_rule
+            (pair_rule (mark_rule 123) (pair_rule (separated_rule (expr_at_rule depth) (expr_some depth) (λ ws. refl)) (skip_rule 125) (λ y ws f follow. refl)) (λ y ws f follow. refl))
+            (λ (z : Place × (List Expr × Unit {0})). expr.Concat z.0 z.1.0) spell.expr (λ z. concat_spelled z.0 z.1.0))
+        atom_rule
+        (λ e ws f follow. begins_as (sees_mark 123) true e (expr.Concat f.0.0 f.0.1.0) (spell.placed_mark f.0.0 123 ∷ (between_commas spell.expr f.0.1.0 ++ spell.mark 125 ∷ [])) ws f.1 (concat_spelled f.0.0 f.0.1.0) refl)
+        (λ e ws f follow. ap (λ (vs : List Written). begins (sees_mark 123) (vs ++ ws)) (fold_out-Expr (List Written) spell.expr_layer e) ∙ atom_begins (out-Expr e) ws f))
+    (layer_of depth) (λ e f. layer_by depth e (out-Expr e) refl f)
+
+-- how each variant of a target is written
+target_pick_spelled : (p : Pick) → spell.target (target.Pick p) ≡ spell.pick p
+target_pick_spelled p = ap spell.target (sym (target.rolls-Pick p)) ∙ fold-roll-Target (List Written) spell.target_layer (Target-F.Pick p)
+
+targets_behind_spelled : (parts : List Target) → behind_commas (λ (part : List Written). part) (map spell.target parts) ≡ behind_commas spell.target parts
+targets_behind_spelled [] = refl
+targets_behind_spelled (t ∷ parts) = ap (λ (ws : List Written). bare (form.Mark 44) ∷ (spell.target t ++ ws)) (targets_behind_spelled parts)
+
+targets_between_spelled : (parts : List Target) → between_commas (λ (part : List Written). part) (map spell.target parts) ≡ between_commas spell.target parts
+targets_between_spelled [] = refl
+targets_between_spelled (t ∷ parts) = ap (λ (ws : List Written). spell.target t ++ ws) (targets_behind_spelled parts)
+
+target_concat_spelled : (place : Place) (parts : List Target) → spell.target (target.Concat place parts) ≡ spell.placed_mark place 123 ∷ (between_commas spell.target parts ++ spell.mark 125 ∷ [])
+target_concat_spelled place parts = ap spell.target (sym (target.rolls-Concat place parts)) ∙ fold-roll-Target (List Written) spell.target_layer (Target-F.Concat place parts)
+    ∙ ap (λ (ws : List Written). spell.placed_mark place 123 ∷ (ws ++ spell.mark 125 ∷ [])) (targets_between_spelled parts)
+
+-- a target is what its layer makes
+target_made_of : (t : Target) (o : Target-F Target) (made : Target) → out-Target t ≡ o → roll-Target o ≡ made → t ≡ made
+target_made_of t o made is rolls = sym (roll-out-Target t) ∙ ap roll-Target is ∙ rolls
+
+abbrev IsTargetPick : Target → Type 0
+IsTargetPick t = (p : Pick) × (t ≡ target.Pick p) × fit.IsFitPick p
+
+-- a concatenation of targets
+abbrev IsTargetConcat : (Target → Type 0) → Target → Type 0
+IsTargetConcat IsPart t = (z : Place × (List Target × Unit {0})) × (t ≡ target.Concat z.0 z.1.0) × (fit.IsFree z.0 × (fit.AreSome IsPart z.1.0 × fit.IsFree z.1.1))
+
+target_pick_of : (AreParts : List Target → Type 0) (t : Target) → IsTargetPick t → fit.IsFitTargetLayer AreParts (out-Target t)
+target_pick_of AreParts t f = subst (fit.IsFitTargetLayer AreParts) (sym (ap out-Target f.1 ∙ target.outs-Pick f.0)) f.2
+
+target_pick_by : (t : Target) (o : Target-F Target) → out-Target t ≡ o → fit.IsFitTargetLayer (λ parts. ⊥) o → IsTargetPick t
+target_pick_by t (Target-F.Pick p) is f = (p, target_made_of t (Target-F.Pick p) (target.Pick p) is (target.rolls-Pick p), f)
+target_pick_by t (Target-F.Concat place parts) is f = absurd f
+
+-- a target is a concatenation or a pick
+target_layer_of : (depth : ℕ) (t : Target) → IsTargetConcat (fit.IsFitTargetAt depth) t ⊎ IsTargetPick t → fit.IsFitTargetAt (suc depth) t
+target_layer_of depth t (inl f) = subst (fit.IsFitTargetLayer (fit.AreSome (fit.IsFitTargetAt depth))) (sym (ap out-Target f.1 ∙ target.outs-Concat f.0.0 f.0.1.0)) f.2.1.0
+target_layer_of depth t (inr f) = target_pick_of (fit.AreSome (fit.IsFitTargetAt depth)) t f
+
+target_layer_by : (depth : ℕ) (t : Target) (o : Target-F Target) → out-Target t ≡ o → fit.IsFitTargetLayer (fit.AreSome (fit.IsFitTargetAt depth)) o → IsTargetConcat (fit.IsFitTargetAt depth) t ⊎ IsTargetPick t
+target_layer_by depth t (Target-F.Pick p) is f = inr (p, target_made_of t (Target-F.Pick p) (target.Pick p) is (target.rolls-Pick p), f)
+target_layer_by depth t (Target-F.Concat place parts) is f = inl ((place, (parts, tt)), target_made_of t (Target-F.Concat place parts) (target.Concat place parts) is (target.rolls-Concat place parts), (tt, (f, tt)))
+
+-- a target begins as its variant is written
+target_begins_as : (sees : Form → Form → Bool) (b : Bool) (t made : Target) (vs ws : List Written) → t ≡ made → spell.target made ≡ vs → begins sees (vs ++ ws) ≡ b → begins sees (spell.target t ++ ws) ≡ b
+target_begins_as sees b t made vs ws is spelled begun = ap (λ (d : Target). begins sees (spell.target d ++ ws)) is ∙ ap (λ (us : List Written). begins sees (us ++ ws)) spelled ∙ begun
 
 -- a target begins with a name or a `{`
 abbrev pub begins_target : Form → Bool
 begins_target f = input.is_name f || is_mark 123 f
 
+-- each layer of a target begins so, and has a token
+target_layer_begins : (o : Target-F Target) (ws : List Written) → begins_target (first_form (spell.target_layer (map-Target Target (List Written) spell.target o) ++ ws)) ≡ true
+target_layer_begins (Target-F.Pick p) ws = refl
+target_layer_begins (Target-F.Concat place parts) ws = refl
+
+target_layer_some : (o : Target-F Target) → 0 < length (spell.target_layer (map-Target Target (List Written) spell.target o))
+target_layer_some (Target-F.Pick p) = omega arith
+target_layer_some (Target-F.Concat place parts) = omega arith
+
 pub target_begins : (depth : ℕ) (t : Target) (ws : List Written) → fit.IsFitTargetAt depth t → begins_target (first_form (spell.target t ++ ws)) ≡ true
-target_begins = ?
+target_begins depth t ws f = ap (λ (vs : List Written). begins_target (first_form (vs ++ ws))) (fold_out-Target (List Written) spell.target_layer t) ∙ target_layer_begins (out-Target t) ws
 
 pub target_some : (depth : ℕ) (t : Target) → fit.IsFitTargetAt depth t → 0 < length (spell.target t)
-target_some = ?
+target_some depth t f = subst (λ (vs : List Written). 0 < length vs) (sym (fold_out-Target (List Written) spell.target_layer t)) (target_layer_some (out-Target t))
+
+pub target_at_rule : (depth : ℕ) → Rule (read.target_at depth) spell.target (fit.IsFitTargetAt depth) no_bracket
+unfolding target_at
+target_at_rule zero = refit_rule (variant_rule pick_rule target.Pick spell.target target_pick_spelled) (target_pick_of (λ parts. ⊥)) (λ t f. target_pick_by t (out-Target t) refl f)
+target_at_rule (suc depth) = refit_rule
+    (choice_rule (sees_mark 123)
+        (variant_rule
+            (pair_rule (mark_rule 123) (pair_rule (separated_rule (target_at_rule depth) (target_some depth) (λ ws. refl)) (skip_rule 125) (λ y ws f follow. refl)) (λ y ws f follow. refl))
+            (λ (z : Place × (List Target × Unit {0})). target.Concat z.0 z.1.0) spell.target (λ z. target_concat_spelled z.0 z.1.0))
+        (variant_rule pick_rule target.Pick spell.target target_pick_spelled)
+        (λ t ws f follow. target_begins_as (sees_mark 123) true t (target.Concat f.0.0 f.0.1.0) (spell.placed_mark f.0.0 123 ∷ (between_commas spell.target f.0.1.0 ++ spell.mark 125 ∷ [])) ws f.1 (target_concat_spelled f.0.0 f.0.1.0) refl)
+        (λ t ws f follow. target_begins_as (sees_mark 123) false t (target.Pick f.0) (spell.pick f.0) ws f.1 (target_pick_spelled f.0) refl))
+    (target_layer_of depth) (λ t f. target_layer_by depth t (out-Target t) refl f)
