@@ -1,18 +1,17 @@
 -- Rules of ranges, selects, expressions and targets.
-use Rattle.std.proofs.Common.{◌≡◌, ℕ, zero, suc, ◌+◌, ◌<◌, Bool, true, false, not, ◌&&◌, ◌||◌, List, [], ◌∷◌, ◌++◌, length, Option, Some, None, codes, map, ◌⊎◌, inl, inr, refl, sym, ap, subst, ◌∙◌, arith}
+use Rattle.std.proofs.Common.{◌≡◌, ℕ, zero, suc, ◌+◌, ◌<◌, Bool, true, false, not, ◌&&◌, ◌||◌, List, [], ◌∷◌, ◌++◌, length, map, ◌⊎◌, inl, inr, refl, sym, ap, subst, ◌∙◌, arith}
 use Rattle.v_tree.specs.declared.places.Place.{Place}
-use Rattle.v_tree.specs.Written.{Form, Written, at, bare, written_if_there, behind_commas, between_commas, one_by_one}
+use Rattle.v_tree.specs.Written.{Form, Written, at, bare, behind_commas, between_commas}
 use Rattle.v_tree.specs.Written as form
 use Rattle.v_tree.specs.Fit as fit
-use Rattle.v_tree.specs.Words as words
 use Rattle.v_tree.specs.Spelling as spell
-use Rattle.v_parser.specs.Input.{Reader, token, is_mark, ◌<$>◌, ◌&◌, choice, optional, separated, placed_number, placed_based, mark, skip}
+use Rattle.v_parser.specs.Input.{token, is_mark, ◌<$>◌, ◌&◌, choice, placed_number, placed_based, mark}
 use Rattle.v_parser.specs.Input as input
 use Rattle.v_lexer.specs.declared.values.Literal.{Literal}
-use Rattle.v_tree.specs.declared.expressions.Expr.{Expr, out-Expr, roll-Expr, roll-out-Expr, map-Expr, fold-Expr, fold-roll-Expr, fold_out-Expr}
+use Rattle.v_tree.specs.declared.expressions.Expr.{Expr, out-Expr, roll-Expr, roll-out-Expr, map-Expr, fold-roll-Expr, fold_out-Expr}
 use Rattle.v_tree.specs.declared.expressions.Expr.TheOpen.{Expr-F}
 use Rattle.v_tree.specs.declared.expressions.Expr.TheVariants as expr
-use Rattle.v_tree.specs.declared.expressions.Target.{Target, out-Target, roll-Target, roll-out-Target, map-Target, fold-Target, fold-roll-Target, fold_out-Target}
+use Rattle.v_tree.specs.declared.expressions.Target.{Target, out-Target, roll-Target, roll-out-Target, map-Target, fold-roll-Target, fold_out-Target}
 use Rattle.v_tree.specs.declared.expressions.Target.TheOpen.{Target-F}
 use Rattle.v_tree.specs.declared.expressions.Target.TheVariants as target
 use Rattle.v_parser.specs.Expressions as read
@@ -20,7 +19,6 @@ use Rattle.v_parser.specs.Expressions.{sees_mark, sees_name, sees_number, range,
 use Rattle.v_tree.specs.declared.expressions.Range.{Range}
 use Rattle.v_tree.specs.declared.expressions.Select.{Select}
 use Rattle.v_tree.specs.declared.expressions.Pick.{Pick}
-use Rattle.v_tree.specs.declared.places.Name.{Name}
 use Rattle.v_parser.proofs.TokenRules.{name_rule, number_rule, placed_number_rule, placed_based_rule, mark_rule, skip_rule}
 use Rattle.v_parser.proofs.Rules.{Rule, Follow, anything, begins, first_form, map_rule, variant_rule, refit_rule, follow_rule, pair_rule, optional_rule, choice_rule, separated_rule}
 
@@ -28,6 +26,7 @@ use Rattle.v_parser.proofs.Rules.{Rule, Follow, anything, begins, first_form, ma
 abbrev pub no_bracket : Follow
 no_bracket ws = not (is_mark 91 (first_form ws))
 
+-- a range
 pub range_rule : Rule read.range spell.range fit.IsFitRange anything
 unfolding range
 range_rule = refit_rule
@@ -35,10 +34,12 @@ range_rule = refit_rule
         range_of (λ (r : Range). (tt, (r.left, (tt, (r.right, tt))))) (λ b. refl) (λ a. refl))
     (λ r f. (f.1.0, f.1.1.1.0)) (λ r f. (tt, (f.0, (tt, (f.1, tt)))))
 
+-- the other bound
 pub bound_rule : Rule read.bound spell.bound fit.IsNumber anything
 unfolding bound
 bound_rule = refit_rule (map_rule (pair_rule (skip_rule 58) number_rule (λ y ws fit follow. refl)) (λ (z : Unit {0} × ℕ). z.1) (λ (n : ℕ). (tt, n)) (λ b. refl) (λ a. refl)) (λ n f. f.1) (λ n f. (tt, f))
 
+-- a select
 pub select_rule : Rule read.select spell.select fit.IsFitSelect anything
 unfolding select
 select_rule = refit_rule
@@ -46,6 +47,7 @@ select_rule = refit_rule
         select_of (λ (s : Select). (tt, (s.left, (s.right, tt)))) (λ b. refl) (λ a. refl))
     (λ s f. (f.1.0, f.1.1.0)) (λ s f. (tt, (f.0, (f.1, tt))))
 
+-- a name, with a select or without one
 pub pick_rule : Rule read.pick spell.pick fit.IsFitPick no_bracket
 unfolding pick
 pick_rule = refit_rule
@@ -53,13 +55,15 @@ pick_rule = refit_rule
         pick_of (λ (p : Pick). (p.name, p.select)) (λ b. refl) (λ a. refl))
     (λ p f. f) (λ p f. f)
 
--- how each variant of an expression is written
+-- a pick is written so
 pick_spelled : (p : Pick) → spell.expr (expr.Pick p) ≡ spell.pick p
 pick_spelled p = ap spell.expr (sym (expr.rolls-Pick p)) ∙ fold-roll-Expr (List Written) spell.expr_layer (Expr-F.Pick p)
 
+-- a number is written so
 number_spelled : (place : Place) (n : ℕ) → spell.expr (expr.Number place n) ≡ at place (form.Number n) ∷ []
 number_spelled place n = ap spell.expr (sym (expr.rolls-Number place n)) ∙ fold-roll-Expr (List Written) spell.expr_layer (Expr-F.Number place n)
 
+-- a based number is written so
 based_spelled : (place : Place) (literal : Literal) → spell.expr (expr.Based place literal) ≡ at place (form.Based literal) ∷ []
 based_spelled place literal = ap spell.expr (sym (expr.rolls-Based place literal)) ∙ fold-roll-Expr (List Written) spell.expr_layer (Expr-F.Based place literal)
 
@@ -68,10 +72,12 @@ behind_spelled : (parts : List Expr) → behind_commas (λ (part : List Written)
 behind_spelled [] = refl
 behind_spelled (e ∷ parts) = ap (λ (ws : List Written). bare (form.Mark 44) ∷ (spell.expr e ++ ws)) (behind_spelled parts)
 
+-- the same of parts with commas between
 between_spelled : (parts : List Expr) → between_commas (λ (part : List Written). part) (map spell.expr parts) ≡ between_commas spell.expr parts
 between_spelled [] = refl
 between_spelled (e ∷ parts) = ap (λ (ws : List Written). spell.expr e ++ ws) (behind_spelled parts)
 
+-- a concatenation is written so
 concat_spelled : (place : Place) (parts : List Expr) → spell.expr (expr.Concat place parts) ≡ spell.placed_mark place 123 ∷ (between_commas spell.expr parts ++ spell.mark 125 ∷ [])
 concat_spelled place parts = ap spell.expr (sym (expr.rolls-Concat place parts)) ∙ fold-roll-Expr (List Written) spell.expr_layer (Expr-F.Concat place parts)
     ∙ ap (λ (ws : List Written). spell.placed_mark place 123 ∷ (ws ++ spell.mark 125 ∷ [])) (between_spelled parts)
@@ -84,21 +90,25 @@ made_of e o made is rolls = sym (roll-out-Expr e) ∙ ap roll-Expr is ∙ rolls
 abbrev IsFitAtom : Expr → Type 0
 IsFitAtom e = fit.IsFitExprLayer (λ parts. ⊥) (out-Expr e)
 
+-- a pick that fits
 abbrev IsPick : Expr → Type 0
 IsPick e = (p : Pick) × (e ≡ expr.Pick p) × fit.IsFitPick p
 
+-- a number that fits
 abbrev IsNumeral : Expr → Type 0
 IsNumeral e = (z : ℕ × Place) × (e ≡ expr.Number z.1 z.0) × fit.IsNumber z.0
 
+-- a based number that fits
 abbrev IsBased : Expr → Type 0
 IsBased e = (z : Literal × Place) × (e ≡ expr.Based z.1 z.0) × fit.IsLiteral z.0
 
--- an atom by its variant
+-- an atom of each variant fits
 atom_of : (AreParts : List Expr → Type 0) (e : Expr) → IsPick e ⊎ (IsNumeral e ⊎ IsBased e) → fit.IsFitExprLayer AreParts (out-Expr e)
 atom_of AreParts e (inl f) = subst (fit.IsFitExprLayer AreParts) (sym (ap out-Expr f.1 ∙ expr.outs-Pick f.0)) f.2
 atom_of AreParts e (inr (inl f)) = subst (fit.IsFitExprLayer AreParts) (sym (ap out-Expr f.1 ∙ expr.outs-Number f.0.1 f.0.0)) f.2
 atom_of AreParts e (inr (inr f)) = subst (fit.IsFitExprLayer AreParts) (sym (ap out-Expr f.1 ∙ expr.outs-Based f.0.1 f.0.0)) f.2
 
+-- which variant an atom is
 atom_by : (e : Expr) (o : Expr-F Expr) → out-Expr e ≡ o → fit.IsFitExprLayer (λ parts. ⊥) o → IsPick e ⊎ (IsNumeral e ⊎ IsBased e)
 atom_by e (Expr-F.Pick p) is f = inl (p, made_of e (Expr-F.Pick p) (expr.Pick p) is (expr.rolls-Pick p), f)
 atom_by e (Expr-F.Number place n) is f = inr (inl ((n, place), made_of e (Expr-F.Number place n) (expr.Number place n) is (expr.rolls-Number place n), f))
@@ -122,6 +132,7 @@ numeral_begins : (e : Expr) (ws : List Written) → IsNumeral e ⊎ IsBased e �
 numeral_begins e ws (inl f) = begins_as sees_name false e (expr.Number f.0.1 f.0.0) (at f.0.1 (form.Number f.0.0) ∷ []) ws f.1 (number_spelled f.0.1 f.0.0) refl
 numeral_begins e ws (inr f) = begins_as sees_name false e (expr.Based f.0.1 f.0.0) (at f.0.1 (form.Based f.0.0) ∷ []) ws f.1 (based_spelled f.0.1 f.0.0) refl
 
+-- a pick or a number
 atom_rule : Rule atom spell.expr IsFitAtom no_bracket
 unfolding atom
 atom_rule = refit_rule
@@ -136,22 +147,25 @@ atom_rule = refit_rule
 abbrev pub begins_expr : Form → Bool
 begins_expr f = input.is_name f || input.is_number f || input.is_based f || is_mark 123 f
 
--- each layer of an expression begins so, and has a token
+-- each layer of an expression begins so
 layer_begins : (o : Expr-F Expr) (ws : List Written) → begins_expr (first_form (spell.expr_layer (map-Expr Expr (List Written) spell.expr o) ++ ws)) ≡ true
 layer_begins (Expr-F.Pick p) ws = refl
 layer_begins (Expr-F.Number place n) ws = refl
 layer_begins (Expr-F.Based place literal) ws = refl
 layer_begins (Expr-F.Concat place parts) ws = refl
 
+-- each layer of an expression has a token
 layer_some : (o : Expr-F Expr) → 0 < length (spell.expr_layer (map-Expr Expr (List Written) spell.expr o))
 layer_some (Expr-F.Pick p) = omega arith
 layer_some (Expr-F.Number place n) = omega arith
 layer_some (Expr-F.Based place literal) = omega arith
 layer_some (Expr-F.Concat place parts) = omega arith
 
+-- an expression begins so
 pub expr_begins : (depth : ℕ) (e : Expr) (ws : List Written) → fit.IsFitExprAt depth e → begins_expr (first_form (spell.expr e ++ ws)) ≡ true
 expr_begins depth e ws f = ap (λ (vs : List Written). begins_expr (first_form (vs ++ ws))) (fold_out-Expr (List Written) spell.expr_layer e) ∙ layer_begins (out-Expr e) ws
 
+-- an expression has a token
 pub expr_some : (depth : ℕ) (e : Expr) → fit.IsFitExprAt depth e → 0 < length (spell.expr e)
 expr_some depth e f = subst (λ (vs : List Written). 0 < length vs) (sym (fold_out-Expr (List Written) spell.expr_layer e)) (layer_some (out-Expr e))
 
@@ -164,6 +178,7 @@ layer_of : (depth : ℕ) (e : Expr) → IsConcat (fit.IsFitExprAt depth) e ⊎ I
 layer_of depth e (inl f) = subst (fit.IsFitExprLayer (fit.AreSome (fit.IsFitExprAt depth))) (sym (ap out-Expr f.1 ∙ expr.outs-Concat f.0.0 f.0.1.0)) f.2.1.0
 layer_of depth e (inr f) = atom_of (fit.AreSome (fit.IsFitExprAt depth)) e (atom_by e (out-Expr e) refl f)
 
+-- which of the two an expression is
 layer_by : (depth : ℕ) (e : Expr) (o : Expr-F Expr) → out-Expr e ≡ o → fit.IsFitExprLayer (fit.AreSome (fit.IsFitExprAt depth)) o → IsConcat (fit.IsFitExprAt depth) e ⊎ fit.IsFitExprLayer (λ parts. ⊥) o
 layer_by depth e (Expr-F.Pick p) is f = inr f
 layer_by depth e (Expr-F.Number place n) is f = inr f
@@ -177,6 +192,7 @@ atom_begins (Expr-F.Number place n) ws f = refl
 atom_begins (Expr-F.Based place literal) ws f = refl
 atom_begins (Expr-F.Concat place parts) ws f = absurd f
 
+-- an expression with concatenations so deep at most
 pub expr_at_rule : (depth : ℕ) → Rule (read.expr_at depth) spell.expr (fit.IsFitExprAt depth) no_bracket
 unfolding expr_at
 expr_at_rule zero = atom_rule
@@ -190,18 +206,21 @@ expr_at_rule (suc depth) = refit_rule
         (λ e ws f follow. ap (λ (vs : List Written). begins (sees_mark 123) (vs ++ ws)) (fold_out-Expr (List Written) spell.expr_layer e) ∙ atom_begins (out-Expr e) ws f))
     (layer_of depth) (λ e f. layer_by depth e (out-Expr e) refl f)
 
--- how each variant of a target is written
+-- a pick is written so as a target
 target_pick_spelled : (p : Pick) → spell.target (target.Pick p) ≡ spell.pick p
 target_pick_spelled p = ap spell.target (sym (target.rolls-Pick p)) ∙ fold-roll-Target (List Written) spell.target_layer (Target-F.Pick p)
 
+-- targets that are written each by itself
 targets_behind_spelled : (parts : List Target) → behind_commas (λ (part : List Written). part) (map spell.target parts) ≡ behind_commas spell.target parts
 targets_behind_spelled [] = refl
 targets_behind_spelled (t ∷ parts) = ap (λ (ws : List Written). bare (form.Mark 44) ∷ (spell.target t ++ ws)) (targets_behind_spelled parts)
 
+-- the same of targets with commas between
 targets_between_spelled : (parts : List Target) → between_commas (λ (part : List Written). part) (map spell.target parts) ≡ between_commas spell.target parts
 targets_between_spelled [] = refl
 targets_between_spelled (t ∷ parts) = ap (λ (ws : List Written). spell.target t ++ ws) (targets_behind_spelled parts)
 
+-- a concatenation of targets is written so
 target_concat_spelled : (place : Place) (parts : List Target) → spell.target (target.Concat place parts) ≡ spell.placed_mark place 123 ∷ (between_commas spell.target parts ++ spell.mark 125 ∷ [])
 target_concat_spelled place parts = ap spell.target (sym (target.rolls-Concat place parts)) ∙ fold-roll-Target (List Written) spell.target_layer (Target-F.Concat place parts)
     ∙ ap (λ (ws : List Written). spell.placed_mark place 123 ∷ (ws ++ spell.mark 125 ∷ [])) (targets_between_spelled parts)
@@ -210,6 +229,7 @@ target_concat_spelled place parts = ap spell.target (sym (target.rolls-Concat pl
 target_made_of : (t : Target) (o : Target-F Target) (made : Target) → out-Target t ≡ o → roll-Target o ≡ made → t ≡ made
 target_made_of t o made is rolls = sym (roll-out-Target t) ∙ ap roll-Target is ∙ rolls
 
+-- a target that is a pick
 abbrev IsTargetPick : Target → Type 0
 IsTargetPick t = (p : Pick) × (t ≡ target.Pick p) × fit.IsFitPick p
 
@@ -217,9 +237,11 @@ IsTargetPick t = (p : Pick) × (t ≡ target.Pick p) × fit.IsFitPick p
 abbrev IsTargetConcat : (Target → Type 0) → Target → Type 0
 IsTargetConcat IsPart t = (z : Place × (List Target × Unit {0})) × (t ≡ target.Concat z.0 z.1.0) × (fit.IsFree z.0 × (fit.AreSome IsPart z.1.0 × fit.IsFree z.1.1))
 
+-- a pick fits as a target
 target_pick_of : (AreParts : List Target → Type 0) (t : Target) → IsTargetPick t → fit.IsFitTargetLayer AreParts (out-Target t)
 target_pick_of AreParts t f = subst (fit.IsFitTargetLayer AreParts) (sym (ap out-Target f.1 ∙ target.outs-Pick f.0)) f.2
 
+-- a target without concatenations is a pick
 target_pick_by : (t : Target) (o : Target-F Target) → out-Target t ≡ o → fit.IsFitTargetLayer (λ parts. ⊥) o → IsTargetPick t
 target_pick_by t (Target-F.Pick p) is f = (p, target_made_of t (Target-F.Pick p) (target.Pick p) is (target.rolls-Pick p), f)
 target_pick_by t (Target-F.Concat place parts) is f = absurd f
@@ -229,6 +251,7 @@ target_layer_of : (depth : ℕ) (t : Target) → IsTargetConcat (fit.IsFitTarget
 target_layer_of depth t (inl f) = subst (fit.IsFitTargetLayer (fit.AreSome (fit.IsFitTargetAt depth))) (sym (ap out-Target f.1 ∙ target.outs-Concat f.0.0 f.0.1.0)) f.2.1.0
 target_layer_of depth t (inr f) = target_pick_of (fit.AreSome (fit.IsFitTargetAt depth)) t f
 
+-- which of the two a target is
 target_layer_by : (depth : ℕ) (t : Target) (o : Target-F Target) → out-Target t ≡ o → fit.IsFitTargetLayer (fit.AreSome (fit.IsFitTargetAt depth)) o → IsTargetConcat (fit.IsFitTargetAt depth) t ⊎ IsTargetPick t
 target_layer_by depth t (Target-F.Pick p) is f = inr (p, target_made_of t (Target-F.Pick p) (target.Pick p) is (target.rolls-Pick p), f)
 target_layer_by depth t (Target-F.Concat place parts) is f = inl ((place, (parts, tt)), target_made_of t (Target-F.Concat place parts) (target.Concat place parts) is (target.rolls-Concat place parts), (tt, (f, tt)))
@@ -241,21 +264,25 @@ target_begins_as sees b t made vs ws is spelled begun = ap (λ (d : Target). beg
 abbrev pub begins_target : Form → Bool
 begins_target f = input.is_name f || is_mark 123 f
 
--- each layer of a target begins so, and has a token
+-- each layer of a target begins so
 target_layer_begins : (o : Target-F Target) (ws : List Written) → begins_target (first_form (spell.target_layer (map-Target Target (List Written) spell.target o) ++ ws)) ≡ true
 target_layer_begins (Target-F.Pick p) ws = refl
 target_layer_begins (Target-F.Concat place parts) ws = refl
 
+-- each layer of a target has a token
 target_layer_some : (o : Target-F Target) → 0 < length (spell.target_layer (map-Target Target (List Written) spell.target o))
 target_layer_some (Target-F.Pick p) = omega arith
 target_layer_some (Target-F.Concat place parts) = omega arith
 
+-- a target begins so
 pub target_begins : (depth : ℕ) (t : Target) (ws : List Written) → fit.IsFitTargetAt depth t → begins_target (first_form (spell.target t ++ ws)) ≡ true
 target_begins depth t ws f = ap (λ (vs : List Written). begins_target (first_form (vs ++ ws))) (fold_out-Target (List Written) spell.target_layer t) ∙ target_layer_begins (out-Target t) ws
 
+-- a target has a token
 pub target_some : (depth : ℕ) (t : Target) → fit.IsFitTargetAt depth t → 0 < length (spell.target t)
 target_some depth t f = subst (λ (vs : List Written). 0 < length vs) (sym (fold_out-Target (List Written) spell.target_layer t)) (target_layer_some (out-Target t))
 
+-- a target with concatenations so deep at most
 pub target_at_rule : (depth : ℕ) → Rule (read.target_at depth) spell.target (fit.IsFitTargetAt depth) no_bracket
 unfolding target_at
 target_at_rule zero = refit_rule (variant_rule pick_rule target.Pick spell.target target_pick_spelled) (target_pick_of (λ parts. ⊥)) (λ t f. target_pick_by t (out-Target t) refl f)
