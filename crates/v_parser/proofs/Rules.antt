@@ -22,7 +22,7 @@ Takes i (w ∷ ws) j = StandsAt i w × Takes (next i) ws j
 
 -- the tokens are few enough, and each says what a tree may keep
 pub record IsSource (i : Input) : Type 0 where
-  pub few : length i.tokens < 2 ^ 32
+  pub few : length i.tokens < 4294967295
   pub sound : AllByRecursion (λ (t : Token). IsSoundForm (form_of i.text t)) i.tokens
 
 -- no token is left
@@ -67,7 +67,7 @@ unfolding next
 next_shorter i h = next_length i.text i.number i.tokens h
 
 -- what is left of tokens after the first is as sound
-next_sound : (text : List ℕ) (number : ℕ) (tokens : List Token) → length tokens < 2 ^ 32 → AllByRecursion (λ (t : Token). IsSoundForm (form_of text t)) tokens → IsSource (next_in text number tokens)
+next_sound : (text : List ℕ) (number : ℕ) (tokens : List Token) → length tokens < 4294967295 → AllByRecursion (λ (t : Token). IsSoundForm (form_of text t)) tokens → IsSource (next_in text number tokens)
 next_sound text number [] few sound = record { few = few; sound = sound }
 next_sound text number (token ∷ tokens) few sound = record { few = omega arith; sound = sound.1 }
 
@@ -434,17 +434,17 @@ commas_rule {A} {p} {written} {IsFit} {may_follow} rule comma = record {
       commas_again rule comma (length i.tokens) [] xs i j ws le t end fit.each parts.0 parts.1;
 }
 
--- one part or several, with commas between
-pub separated_rule : {A : Type 0} {p : Reader A} {written : A → List Written} {IsFit : A → Type 0} {may_follow : Follow} → Rule p written IsFit may_follow
-    → ((x : A) → IsFit x → 0 < length (written x)) → ((ws : List Written) → may_follow (bare (form.Mark 44) ∷ ws) ≡ true)
+-- one part or several, with commas between, where a part may have no token
+pub separated_any_rule : {A : Type 0} {p : Reader A} {written : A → List Written} {IsFit : A → Type 0} {may_follow : Follow} → Rule p written IsFit may_follow
+    → ((ws : List Written) → may_follow (bare (form.Mark 44) ∷ ws) ≡ true)
     → Rule (separated p) (between_commas written) (AreSome IsFit) (λ ws. may_follow ws && no_comma ws)
 unfolding separated commas
-separated_rule {A} {p} {written} {IsFit} {may_follow} rule some comma = record {
+separated_any_rule {A} {p} {written} {IsFit} {may_follow} rule comma = record {
   takes = λ i j xs source e.
       let a = bind_ok (p i) (λ x. commas p (x ∷ [])) (xs, j) e in
       let t = rule.takes i a.0.1 a.0.0 source a.1 in
       let r = commas_found rule (length a.0.1.tokens) (a.0.0 ∷ []) a.0.1 j xs (takes_source (written a.0.0) i a.0.1 source t.0) a.2 in
-      let few : length (a.0.0 ∷ r.0) < 2 ^ 32 = omega (arith, source.few, some a.0.0 t.1, takes_length (written a.0.0) i a.0.1 t.0, takes_length (behind_commas written r.0) a.0.1 j r.2, commas_length written r.0) in
+      let few : length (a.0.0 ∷ r.0) < 2 ^ 32 = omega (arith, source.few, takes_length (written a.0.0) i a.0.1 t.0, takes_length (behind_commas written r.0) a.0.1 j r.2, commas_length written r.0) in
       subst (λ (ys : List A). Takes i (between_commas written ys) j × AreSome IsFit ys) (sym r.1)
       (takes_join (written a.0.0) (behind_commas written r.0) i a.0.1 j t.0 r.2, record { some = omega arith; fit = record { few = few; each = (t.1, r.3) } });
   again = λ i j xs ws t end fit follows. reread i j xs ws t end fit.some fit.fit.each (and_parts (may_follow ws) (no_comma ws) follows);
@@ -459,6 +459,12 @@ separated_rule {A} {p} {written} {IsFit} {may_follow} rule some comma = record {
         let le : length xs ≤ length r.0.tokens = omega (arith, takes_length (behind_commas written xs ++ ws) r.0 j r.2, length-append (behind_commas written xs) ws, commas_length written xs) in
         let s = commas_again rule comma (length r.0.tokens) (x ∷ []) xs r.0 j ws le r.2 end fit.1 follows.0 follows.1 in
         (s.0, bind_step (p i) (λ y. commas p (y ∷ [])) (x, r.0) r.1 ∙ s.1, s.2)
+
+-- one part or several, with commas between, each with a token
+pub separated_rule : {A : Type 0} {p : Reader A} {written : A → List Written} {IsFit : A → Type 0} {may_follow : Follow} → Rule p written IsFit may_follow
+    → ((x : A) → IsFit x → 0 < length (written x)) → ((ws : List Written) → may_follow (bare (form.Mark 44) ∷ ws) ≡ true)
+    → Rule (separated p) (between_commas written) (AreSome IsFit) (λ ws. may_follow ws && no_comma ws)
+separated_rule rule some comma = separated_any_rule rule comma
 
 -- parts that are found up to the end are written so and fit
 many_found : {A : Type 0} {p : Reader A} {written : A → List Written} {IsFit : A → Type 0} (stops : Form → Bool) → Rule p written IsFit anything
