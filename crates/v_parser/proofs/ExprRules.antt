@@ -31,7 +31,7 @@ pub range_rule : Rule read.range spell.range fit.IsFitRange anything
 unfolding range
 range_rule = refit_rule
     (map_rule (pair_rule (skip_rule 91) (pair_rule number_rule (pair_rule (skip_rule 58) (pair_rule number_rule (skip_rule 93) (λ y ws fit follow. refl)) (λ y ws fit follow. refl)) (λ y ws fit follow. refl)) (λ y ws fit follow. refl))
-        range_of (λ (r : Range). (tt, (r.left, (tt, (r.right, tt))))) (λ b. refl) (λ a. refl))
+    range_of (λ (r : Range). (tt, (r.left, (tt, (r.right, tt))))) (λ b. refl) (λ a. refl))
     (λ r f. (f.1.0, f.1.1.1.0)) (λ r f. (tt, (f.0, (tt, (f.1, tt)))))
 
 -- the other bound
@@ -44,7 +44,7 @@ pub select_rule : Rule read.select spell.select fit.IsFitSelect anything
 unfolding select
 select_rule = refit_rule
     (map_rule (pair_rule (skip_rule 91) (pair_rule number_rule (pair_rule (optional_rule (sees_mark 58) bound_rule (λ x ws fit. refl)) (skip_rule 93) (λ y ws fit follow. refl)) (λ y ws fit follow. refl)) (λ y ws fit follow. refl))
-        select_of (λ (s : Select). (tt, (s.left, (s.right, tt)))) (λ b. refl) (λ a. refl))
+    select_of (λ (s : Select). (tt, (s.left, (s.right, tt)))) (λ b. refl) (λ a. refl))
     (λ s f. (f.1.0, f.1.1.0)) (λ s f. (tt, (f.0, (f.1, tt))))
 
 -- a name, with a select or without one
@@ -52,7 +52,7 @@ pub pick_rule : Rule read.pick spell.pick fit.IsFitPick no_bracket
 unfolding pick
 pick_rule = refit_rule
     (map_rule (pair_rule name_rule (optional_rule (sees_mark 91) select_rule (λ x ws fit. refl)) (λ y ws fit follow. refl))
-        pick_of (λ (p : Pick). (p.name, p.select)) (λ b. refl) (λ a. refl))
+    pick_of (λ (p : Pick). (p.name, p.select)) (λ b. refl) (λ a. refl))
     (λ p f. f) (λ p f. f)
 
 -- a pick is written so
@@ -137,10 +137,10 @@ atom_rule : Rule atom spell.expr IsFitAtom no_bracket
 unfolding atom
 atom_rule = refit_rule
     (follow_rule
-        (choice_rule sees_name (variant_rule pick_rule expr.Pick spell.expr pick_spelled) numeral_rule
-            (λ e ws f follow. begins_as sees_name true e (expr.Pick f.0) (spell.pick f.0) ws f.1 (pick_spelled f.0) refl)
-            (λ e ws f follow. numeral_begins e ws f))
-        (λ ws follow. ap (λ (b : Bool). b && true) follow))
+    (choice_rule sees_name (variant_rule pick_rule expr.Pick spell.expr pick_spelled) numeral_rule
+    (λ e ws f follow. begins_as sees_name true e (expr.Pick f.0) (spell.pick f.0) ws f.1 (pick_spelled f.0) refl)
+    (λ e ws f follow. numeral_begins e ws f))
+    (λ ws follow. ap (λ (b : Bool). b && true) follow))
     (atom_of (λ parts. ⊥)) (λ e f. atom_by e (out-Expr e) refl f)
 
 -- the first token of an expression
@@ -198,12 +198,12 @@ unfolding expr_at
 expr_at_rule zero = atom_rule
 expr_at_rule (suc depth) = refit_rule
     (choice_rule (sees_mark 123)
-        (variant_rule
-            (pair_rule (mark_rule 123) (pair_rule (separated_rule (expr_at_rule depth) (expr_some depth) (λ ws. refl)) (skip_rule 125) (λ y ws f follow. refl)) (λ y ws f follow. refl))
-            (λ (z : Place × (List Expr × Unit {0})). expr.Concat z.0 z.1.0) spell.expr (λ z. concat_spelled z.0 z.1.0))
-        atom_rule
-        (λ e ws f follow. begins_as (sees_mark 123) true e (expr.Concat f.0.0 f.0.1.0) (spell.placed_mark f.0.0 123 ∷ (between_commas spell.expr f.0.1.0 ++ spell.mark 125 ∷ [])) ws f.1 (concat_spelled f.0.0 f.0.1.0) refl)
-        (λ e ws f follow. ap (λ (vs : List Written). begins (sees_mark 123) (vs ++ ws)) (fold_out-Expr (List Written) spell.expr_layer e) ∙ atom_begins (out-Expr e) ws f))
+    (variant_rule
+    (pair_rule (mark_rule 123) (pair_rule (separated_rule (expr_at_rule depth) (expr_some depth) (λ ws. refl)) (skip_rule 125) (λ y ws f follow. refl)) (λ y ws f follow. refl))
+    (λ (z : Place × (List Expr × Unit {0})). expr.Concat z.0 z.1.0) spell.expr (λ z. concat_spelled z.0 z.1.0))
+    atom_rule
+    (λ e ws f follow. begins_as (sees_mark 123) true e (expr.Concat f.0.0 f.0.1.0) (spell.placed_mark f.0.0 123 ∷ (between_commas spell.expr f.0.1.0 ++ spell.mark 125 ∷ [])) ws f.1 (concat_spelled f.0.0 f.0.1.0) refl)
+    (λ e ws f follow. ap (λ (vs : List Written). begins (sees_mark 123) (vs ++ ws)) (fold_out-Expr (List Written) spell.expr_layer e) ∙ atom_begins (out-Expr e) ws f))
     (layer_of depth) (λ e f. layer_by depth e (out-Expr e) refl f)
 
 -- a pick is written so as a target
@@ -288,10 +288,10 @@ unfolding target_at
 target_at_rule zero = refit_rule (variant_rule pick_rule target.Pick spell.target target_pick_spelled) (target_pick_of (λ parts. ⊥)) (λ t f. target_pick_by t (out-Target t) refl f)
 target_at_rule (suc depth) = refit_rule
     (choice_rule (sees_mark 123)
-        (variant_rule
-            (pair_rule (mark_rule 123) (pair_rule (separated_rule (target_at_rule depth) (target_some depth) (λ ws. refl)) (skip_rule 125) (λ y ws f follow. refl)) (λ y ws f follow. refl))
-            (λ (z : Place × (List Target × Unit {0})). target.Concat z.0 z.1.0) spell.target (λ z. target_concat_spelled z.0 z.1.0))
-        (variant_rule pick_rule target.Pick spell.target target_pick_spelled)
-        (λ t ws f follow. target_begins_as (sees_mark 123) true t (target.Concat f.0.0 f.0.1.0) (spell.placed_mark f.0.0 123 ∷ (between_commas spell.target f.0.1.0 ++ spell.mark 125 ∷ [])) ws f.1 (target_concat_spelled f.0.0 f.0.1.0) refl)
-        (λ t ws f follow. target_begins_as (sees_mark 123) false t (target.Pick f.0) (spell.pick f.0) ws f.1 (target_pick_spelled f.0) refl))
+    (variant_rule
+    (pair_rule (mark_rule 123) (pair_rule (separated_rule (target_at_rule depth) (target_some depth) (λ ws. refl)) (skip_rule 125) (λ y ws f follow. refl)) (λ y ws f follow. refl))
+    (λ (z : Place × (List Target × Unit {0})). target.Concat z.0 z.1.0) spell.target (λ z. target_concat_spelled z.0 z.1.0))
+    (variant_rule pick_rule target.Pick spell.target target_pick_spelled)
+    (λ t ws f follow. target_begins_as (sees_mark 123) true t (target.Concat f.0.0 f.0.1.0) (spell.placed_mark f.0.0 123 ∷ (between_commas spell.target f.0.1.0 ++ spell.mark 125 ∷ [])) ws f.1 (target_concat_spelled f.0.0 f.0.1.0) refl)
+    (λ t ws f follow. target_begins_as (sees_mark 123) false t (target.Pick f.0) (spell.pick f.0) ws f.1 (target_pick_spelled f.0) refl))
     (target_layer_of depth) (λ t f. target_layer_by depth t (out-Target t) refl f)

@@ -88,10 +88,10 @@ pub terms_rule : Rule read.terms spell.terms fit.IsFitTerms anything
 unfolding terms
 terms_rule = refit_rule
     (map_rule
-        (pair_rule (optional_rule sees_name name_rule (λ x ws f. refl))
-            (pair_rule (mark_rule 40) (pair_rule (separated_any_rule expr_rule (λ ws. refl)) (skip_rule 41) (λ y ws f follow. refl)) (λ y ws f follow. refl))
-            (λ y ws f follow. refl))
-        terms_of (λ (t : Terms). (t.name, (t.paren, (t.terminals, tt)))) (λ b. refl) (λ a. refl))
+    (pair_rule (optional_rule sees_name name_rule (λ x ws f. refl))
+    (pair_rule (mark_rule 40) (pair_rule (separated_any_rule expr_rule (λ ws. refl)) (skip_rule 41) (λ y ws f follow. refl)) (λ y ws f follow. refl))
+    (λ y ws f follow. refl))
+    terms_of (λ (t : Terms). (t.name, (t.paren, (t.terminals, tt)))) (λ b. refl) (λ a. refl))
     (λ t f. record { name = f.0; terminals = f.1.1.0 }) (λ t f. (f.name, (tt, (f.terminals, tt))))
 
 -- an item of gates of one kind
@@ -259,16 +259,16 @@ pub logic_item_rule : Rule read.logic_item spell.gate_item IsLogic anything
 unfolding logic_item
 logic_item_rule = refit_rule
     (variant_rule
-        (pair_rule logic_rule
-            (pair_rule (optional_rule sees_drive drive_rule (λ d ws f. drive_begins d ws))
-                (pair_rule (optional_rule (sees_mark 35) delay_spec_rule (λ d ws f. refl))
-                    (pair_rule (separated_any_rule terms_rule (λ ws. refl)) (skip_rule 59) (λ y ws f follow. refl))
-                    (λ y ws f follow. ap not (gates_delayless y.0 ws f.0)))
-                (λ y ws f follow. ap not (delayed_driveless y.0 y.1.0 ws f.1.0)))
-            (λ y ws f follow. refl))
-        logic_of spell.gate_item
-        (λ z. ap (λ (ws : List Written). spell.placed_word z.0.1 (words.logic_word z.0.0) ∷ ws)
-            (append_assoc (written_if_there spell.drive z.1.0) (written_if_there spell.delay_spec z.1.1.0) (between_commas spell.terms z.1.1.1.0 ++ spell.mark 59 ∷ []))))
+    (pair_rule logic_rule
+    (pair_rule (optional_rule sees_drive drive_rule (λ d ws f. drive_begins d ws))
+    (pair_rule (optional_rule (sees_mark 35) delay_spec_rule (λ d ws f. refl))
+    (pair_rule (separated_any_rule terms_rule (λ ws. refl)) (skip_rule 59) (λ y ws f follow. refl))
+    (λ y ws f follow. ap not (gates_delayless y.0 ws f.0)))
+    (λ y ws f follow. ap not (delayed_driveless y.0 y.1.0 ws f.1.0)))
+    (λ y ws f follow. refl))
+    logic_of spell.gate_item
+    (λ z. ap (λ (ws : List Written). spell.placed_word z.0.1 (words.logic_word z.0.0) ∷ ws)
+    (append_assoc (written_if_there spell.drive z.1.0) (written_if_there spell.delay_spec z.1.1.0) (between_commas spell.terms z.1.1.1.0 ++ spell.mark 59 ∷ []))))
     (λ g f. subst IsLogic (sym f.1) (record { kind = f.2.1.1.0; gates = f.2.1.1.1.0 }, tt))
     (λ g f. logic_by g.place g.kind g.gates f.0.kind f.0.gates f.1)
 
@@ -277,12 +277,12 @@ pub switch_item_rule : Rule read.switch_item spell.gate_item IsSwitch anything
 unfolding switch_item
 switch_item_rule = refit_rule
     (variant_rule
-        (pair_rule switch_rule
-            (pair_rule (optional_rule (sees_mark 35) delay_spec_rule (λ d ws f. refl))
-                (pair_rule (separated_any_rule terms_rule (λ ws. refl)) (skip_rule 59) (λ y ws f follow. refl))
-                (λ y ws f follow. ap not (gates_delayless y.0 ws f.0)))
-            (λ y ws f follow. refl))
-        switch_of spell.gate_item (λ z. refl))
+    (pair_rule switch_rule
+    (pair_rule (optional_rule (sees_mark 35) delay_spec_rule (λ d ws f. refl))
+    (pair_rule (separated_any_rule terms_rule (λ ws. refl)) (skip_rule 59) (λ y ws f follow. refl))
+    (λ y ws f follow. ap not (gates_delayless y.0 ws f.0)))
+    (λ y ws f follow. refl))
+    switch_of spell.gate_item (λ z. refl))
     (λ g f. subst IsSwitch (sym f.1) (record { kind = f.2.1.0; gates = f.2.1.1.0 }, tt))
     (λ g f. switch_by g.place g.kind g.gates f.0.kind f.0.gates f.1)
 
@@ -291,8 +291,8 @@ pub tran_item_rule : Rule read.tran_item spell.gate_item IsTran anything
 unfolding tran_item
 tran_item_rule = refit_rule
     (variant_rule
-        (pair_rule tran_rule (pair_rule (separated_any_rule terms_rule (λ ws. refl)) (skip_rule 59) (λ y ws f follow. refl)) (λ y ws f follow. refl))
-        tran_of spell.gate_item (λ z. refl))
+    (pair_rule tran_rule (pair_rule (separated_any_rule terms_rule (λ ws. refl)) (skip_rule 59) (λ y ws f follow. refl)) (λ y ws f follow. refl))
+    tran_of spell.gate_item (λ z. refl))
     (λ g f. subst IsTran (sym f.1) (record { kind = tt; gates = f.2.1.0 }, tt))
     (λ g f. tran_by g.place g.kind g.gates f.0.gates f.1)
 
@@ -301,12 +301,12 @@ pub pull_item_rule : Rule read.pull_item spell.gate_item IsPull anything
 unfolding pull_item
 pull_item_rule = refit_rule
     (variant_rule
-        (pair_rule pull_rule
-            (pair_rule (optional_rule sees_drive pull_levels_rule (λ d ws f. pull_begins d ws))
-                (pair_rule (separated_any_rule terms_rule (λ ws. refl)) (skip_rule 59) (λ y ws f follow. refl))
-                (λ y ws f follow. ap not (gates_driveless y.0 ws f.0)))
-            (λ y ws f follow. refl))
-        pull_of spell.gate_item (λ z. refl))
+    (pair_rule pull_rule
+    (pair_rule (optional_rule sees_drive pull_levels_rule (λ d ws f. pull_begins d ws))
+    (pair_rule (separated_any_rule terms_rule (λ ws. refl)) (skip_rule 59) (λ y ws f follow. refl))
+    (λ y ws f follow. ap not (gates_driveless y.0 ws f.0)))
+    (λ y ws f follow. refl))
+    pull_of spell.gate_item (λ z. refl))
     (λ g f. subst IsPull (sym f.1) (record { kind = tt; gates = f.2.1.1.0 }, tt))
     (λ g f. pull_by g.place g.kind g.gates f.0.gates f.1)
 
@@ -315,12 +315,12 @@ connection_rule : Rule read.connection spell.connection fit.IsFitConnection anyt
 unfolding connection
 connection_rule = refit_rule
     (map_rule
-        (pair_rule (mark_rule 46)
-            (pair_rule name_rule
-                (pair_rule (skip_rule 40) (pair_rule (optional_rule read.begins_expr expr_rule (λ e ws f. expr_begins 64 e ws f)) (skip_rule 41) (λ y ws f follow. refl)) (λ y ws f follow. refl))
-                (λ y ws f follow. refl))
-            (λ y ws f follow. refl))
-        connection_of (λ (c : Connection). (c.place, (c.port, (tt, (c.value, tt))))) (λ b. refl) (λ a. refl))
+    (pair_rule (mark_rule 46)
+    (pair_rule name_rule
+    (pair_rule (skip_rule 40) (pair_rule (optional_rule read.begins_expr expr_rule (λ e ws f. expr_begins 64 e ws f)) (skip_rule 41) (λ y ws f follow. refl)) (λ y ws f follow. refl))
+    (λ y ws f follow. refl))
+    (λ y ws f follow. refl))
+    connection_of (λ (c : Connection). (c.place, (c.port, (tt, (c.value, tt))))) (λ b. refl) (λ a. refl))
     (λ c f. record { port = f.1.0; value = f.1.1.1.0 }) (λ c f. (tt, (f.port, (tt, (f.value, tt)))))
 
 -- a `)` is next
@@ -368,14 +368,14 @@ connections_rule : Rule read.connections spell.connections fit.IsFitConnections 
 unfolding connections
 connections_rule = refit_rule
     (follow_rule
-        (choice_rule (sees_mark 46)
-            (follow_rule {may_follow' = closes} (variant_rule (separated_any_rule connection_rule (λ ws. refl)) ByName spell.connections (λ a. refl))
-                (λ ws follow. ap (λ (f : Form). not (is_mark 44 f)) (closes_is (first_form ws) follow)))
-            (follow_rule {may_follow' = closes} (variant_rule (separated_any_rule (optional_rule read.begins_expr expr_rule (λ e ws f. expr_begins 64 e ws f)) (λ ws. refl)) ByPlace spell.connections (λ a. refl))
-                (λ ws follow. ap (λ (f : Form). (not (is_mark 91 f) && not (begins_expr f)) && not (is_mark 44 f)) (closes_is (first_form ws) follow)))
-            (λ c ws f follow. ap (λ (d : Connections). begins (sees_mark 46) (spell.connections d ++ ws)) f.1 ∙ names_dotted f.0 ws f.2)
-            (λ c ws f follow. ap (λ (d : Connections). begins (sees_mark 46) (spell.connections d ++ ws)) f.1 ∙ places_dotless f.0 ws f.2 follow))
-        (λ ws follow. ap (λ (b : Bool). b && b) follow))
+    (choice_rule (sees_mark 46)
+    (follow_rule {may_follow' = closes} (variant_rule (separated_any_rule connection_rule (λ ws. refl)) ByName spell.connections (λ a. refl))
+    (λ ws follow. ap (λ (f : Form). not (is_mark 44 f)) (closes_is (first_form ws) follow)))
+    (follow_rule {may_follow' = closes} (variant_rule (separated_any_rule (optional_rule read.begins_expr expr_rule (λ e ws f. expr_begins 64 e ws f)) (λ ws. refl)) ByPlace spell.connections (λ a. refl))
+    (λ ws follow. ap (λ (f : Form). (not (is_mark 91 f) && not (begins_expr f)) && not (is_mark 44 f)) (closes_is (first_form ws) follow)))
+    (λ c ws f follow. ap (λ (d : Connections). begins (sees_mark 46) (spell.connections d ++ ws)) f.1 ∙ names_dotted f.0 ws f.2)
+    (λ c ws f follow. ap (λ (d : Connections). begins (sees_mark 46) (spell.connections d ++ ws)) f.1 ∙ places_dotless f.0 ws f.2 follow))
+    (λ ws follow. ap (λ (b : Bool). b && b) follow))
     connections_of connections_by
 
 -- an instance of an item
@@ -383,10 +383,10 @@ inst_rule : Rule read.inst spell.inst fit.IsFitInst anything
 unfolding inst
 inst_rule = refit_rule
     (map_rule
-        (pair_rule (optional_rule sees_name name_rule (λ x ws f. refl))
-            (pair_rule (mark_rule 40) (pair_rule connections_rule (skip_rule 41) (λ y ws f follow. refl)) (λ y ws f follow. refl))
-            (λ y ws f follow. refl))
-        inst_of (λ (i : Inst). (i.name, (i.paren, (i.connections, tt)))) (λ b. refl) (λ a. refl))
+    (pair_rule (optional_rule sees_name name_rule (λ x ws f. refl))
+    (pair_rule (mark_rule 40) (pair_rule connections_rule (skip_rule 41) (λ y ws f follow. refl)) (λ y ws f follow. refl))
+    (λ y ws f follow. refl))
+    inst_of (λ (i : Inst). (i.name, (i.paren, (i.connections, tt)))) (λ b. refl) (λ a. refl))
     (λ i f. record { name = f.0; connections = f.1.1.0 }) (λ i f. (f.name, (tt, (f.connections, tt))))
 
 -- connections and the `)` behind them begin with no word
@@ -434,12 +434,12 @@ pub instance_rule : Rule read.instance spell.instance fit.IsFitInstance anything
 unfolding instance
 instance_rule = refit_rule
     (map_rule
-        (pair_rule name_rule
-            (pair_rule (optional_rule sees_drive drive_rule (λ d ws f. drive_begins d ws))
-                (pair_rule (optional_rule (sees_mark 35) delay_spec_rule (λ d ws f. refl))
-                    (pair_rule (separated_any_rule inst_rule (λ ws. refl)) (skip_rule 59) (λ y ws f follow. refl))
-                    (λ y ws f follow. ap not (insts_delayless y.0 ws f.0)))
-                (λ y ws f follow. ap not (delayed_insts_driveless y.0 y.1.0 ws f.1.0)))
-            (λ y ws f follow. refl))
-        instance_of (λ (i : Instance). (i.name, (i.drive, (i.delay, (i.instances, tt))))) (λ b. refl) (λ a. refl))
+    (pair_rule name_rule
+    (pair_rule (optional_rule sees_drive drive_rule (λ d ws f. drive_begins d ws))
+    (pair_rule (optional_rule (sees_mark 35) delay_spec_rule (λ d ws f. refl))
+    (pair_rule (separated_any_rule inst_rule (λ ws. refl)) (skip_rule 59) (λ y ws f follow. refl))
+    (λ y ws f follow. ap not (insts_delayless y.0 ws f.0)))
+    (λ y ws f follow. ap not (delayed_insts_driveless y.0 y.1.0 ws f.1.0)))
+    (λ y ws f follow. refl))
+    instance_of (λ (i : Instance). (i.name, (i.drive, (i.delay, (i.instances, tt))))) (λ b. refl) (λ a. refl))
     (λ i f. record { name = f.0; delay = f.1.1.0; instances = f.1.1.1.0 }) (λ i f. (f.name, (free_there i.drive, (f.delay, (f.instances, tt)))))

@@ -9,3 +9,4 @@ pub mod DeclarationRules
 pub mod GateRules
 pub mod ModuleRules
 pub mod Source
+pub mod Whole

@@ -1,12 +1,15 @@
 -- What the tokens of a text keep, for those who read them.
-use Rattle.std.proofs.Common.{◌≡◌, ◌≢◌, ℕ, zero, suc, ◌+◌, ◌-◌, ◌<◌, ◌≤◌, ◌^◌, Bool, true, false, List, [], ◌∷◌, ◌++◌, length, take, drop, Option, Some, None, refl, sym, ap, subst, ◌∙◌, arith, inl, inr}
-use Rattle.std.specs.Prelude.{slice_range, nat_lt, ¬}
+use Rattle.std.proofs.Common.{◌≡◌, ◌≢◌, ℕ, zero, suc, ◌+◌, ◌-◌, ◌<◌, ◌≤◌, ◌^◌, Bool, true, false, List, [], ◌∷◌, ◌++◌, length, take, drop, Option, Some, None, refl, sym, ap, subst, ◌∙◌, ◌⊎◌, arith, inl, inr, length-append, ltb-true}
+use Rattle.std.specs.Prelude.{slice_range, nat_lt}
 use Rattle.std.specs.List.{All, AllByRecursion}
 use Rattle.v_lexer.specs.declared.token.Token.{Token}
 use Rattle.v_lexer.specs.declared.token.TokenKind.{TokenKind}
 use Rattle.v_lexer.specs.declared.token.TokenKind.TheVariants as kind
 use Rattle.v_lexer.specs.declared.token.Piece.{Piece}
 use Rattle.v_lexer.specs.Sound.{bytes_of, IsVisible, HasBits, IsSound, AreSound}
+use Rattle.std.proofs.lemmas.Bool.{cases_Bool}
+use Rattle.std.proofs.lemmas.List.Elements.{recursion_from_All}
+use Rattle.v_lexer.specs.Places.{table_after}
 use Rattle.v_lexer.specs.Reading.{AreTokensOf, Reads, Stands, line_of}
 use Rattle.v_lexer.specs.Tokens.{given, end_at}
 use Rattle.v_lexer.specs.Values.{name_text, literal_of}
@@ -18,19 +21,89 @@ use Rattle.v_parser.proofs.Rules.{IsSource}
 use Rattle.v_parser.proofs.ModuleRules.{AreEnded}
 use Rattle.v_parser.specs.Reading.{whole}
 
+given_one : (at line : ℕ) (kind : Option TokenKind) (len : ℕ) → length (given at line kind len) ≤ 1
+given_one at line None len = omega arith
+given_one at line (Some kind) len = omega arith
+
 tokens_few_from : (text : List ℕ) (table : Bool) (at : ℕ) (pieces : List Piece) (tokens : List Token) → Reads text table at pieces tokens → length tokens + at ≤ length text + 1
-tokens_few_from = ?
+tokens_few_from text table at [] tokens h = rw h.1 (omega (arith, h.0))
+tokens_few_from text table at (piece ∷ pieces) tokens h =
+    let few : length h.0 + (at + piece.len) ≤ length text + 1 = tokens_few_from text (table_after table piece (drop at text)) (at + piece.len) pieces h.0 h.3 in
+    let one : length (given at (line_of text at) piece.kind piece.len) ≤ 1 = given_one at (line_of text at) piece.kind piece.len in
+    let some : 0 < piece.len = h.1.some in
+    rw h.2 (omega (arith, length-append (given at (line_of text at) piece.kind piece.len) h.0, few, one, some))
 
 -- there is one token more than bytes at most
 pub tokens_few : (text : List ℕ) (tokens : List Token) → AreTokensOf text tokens → length tokens ≤ length text + 1
-tokens_few = ?
+tokens_few text tokens h = omega (arith, tokens_few_from text false 0 h.0 tokens h.1)
+
+name_sound : (bytes : List ℕ) → IsVisible bytes → IsNameText bytes
+name_sound bytes h = record { some = h.some; visible = recursion_from_All (λ byte. (33 ≤ byte) × (byte ≤ 126)) bytes h.visible }
+
+number_sound : (n : ℕ) → IsSoundForm (number_form n)
+number_sound n =
+    elim (cases_Bool (nat_lt n 2147483648)) [
+      | inl below ↦ rw below (omega (arith, ltb-true))
+      | inr above ↦ rw above tt
+    ]
+
+based_sound : (bytes : List ℕ) → HasBits bytes → IsSoundForm (based_form (literal_of bytes))
+based_sound bytes h = rw h.means (record { some = h.some; few = h.few })
 
 -- each token says what a tree may keep
 sound_form : (text : List ℕ) (token : Token) → IsSound text token → IsSoundForm (form_of text token)
-sound_form = ?
+unfolding form_of
+sound_form text token sound = by token.kind refl
+  where
+    by : (k : TokenKind) → token.kind ≡ k → IsSoundForm (form_by k (slice_of text token))
+    by kind.Name is = name_sound (name_text (slice_of text token)) (sound.name is)
+    by kind.Word is = tt
+    by kind.Number is = number_sound (decimal_value (slice_of text token))
+    by kind.Decimal is = tt
+    by kind.Exponent is = tt
+    by kind.Based is = based_sound (slice_of text token) (sound.based is)
+    by kind.Text is = tt
+    by kind.Directive is = tt
+    by kind.Symbol is = tt
+    by kind.Mark is = tt
+    by kind.End is = tt
+
+end_or_not : (k : TokenKind) → (k ≡ kind.End) ⊎ (k ≢ kind.End)
+end_or_not kind.Name = inr (λ e. cc)
+end_or_not kind.Word = inr (λ e. cc)
+end_or_not kind.Number = inr (λ e. cc)
+end_or_not kind.Decimal = inr (λ e. cc)
+end_or_not kind.Exponent = inr (λ e. cc)
+end_or_not kind.Based = inr (λ e. cc)
+end_or_not kind.Text = inr (λ e. cc)
+end_or_not kind.Directive = inr (λ e. cc)
+end_or_not kind.Symbol = inr (λ e. cc)
+end_or_not kind.Mark = inr (λ e. cc)
+end_or_not kind.End = inl refl
+
+forms_sound : (text : List ℕ) (tokens : List Token) → AreSound text tokens → AllByRecursion (λ (t : Token). IsSoundForm (form_of text t)) tokens
+forms_sound text [] h = absurd h
+forms_sound text (token ∷ others) h =
+    elim (end_or_not token.kind) [
+      | inl end ↦ (sound_form text token h.0, subst (AllByRecursion (λ (t : Token). IsSoundForm (form_of text t))) (sym (h.1 end)) tt)
+      | inr more ↦ (sound_form text token h.0, forms_sound text others (h.2 more))
+    ]
 
 pub source_of : (text : List ℕ) (tokens : List Token) → length text ≤ 67108864 → AreTokensOf text tokens → IsSource (whole text tokens)
-source_of = ?
+source_of text tokens small are = record {
+  few = omega (arith, tokens_few text tokens are);
+  sound = forms_sound text tokens (are_sound text tokens are)
+}
 
 pub ended_of : (text : List ℕ) (tokens : List Token) → AreSound text tokens → AreEnded tokens
-ended_of = ?
+ended_of text [] h = absurd h
+ended_of text (token ∷ []) h =
+    elim (end_or_not token.kind) [
+      | inl end ↦ end
+      | inr more ↦ absurd (h.2 more)
+    ]
+ended_of text (token ∷ next ∷ tokens) h =
+    elim (end_or_not token.kind) [
+      | inl end ↦ absurd (let none : next ∷ tokens ≡ [] = h.1 end in cc)
+      | inr more ↦ (more, ended_of text (next ∷ tokens) (h.2 more))
+    ]
