@@ -92,7 +92,7 @@ forms_sound text (token ∷ others) h =
 pub source_of : (text : List ℕ) (tokens : List Token) → length text ≤ 67108864 → AreTokensOf text tokens → IsSource (whole text tokens)
 source_of text tokens small are = record {
   few = omega (arith, tokens_few text tokens are);
-  sound = forms_sound text tokens (are_sound text tokens are)
+  sound = forms_sound text tokens (are_sound text tokens are);
 }
 
 pub ended_of : (text : List ℕ) (tokens : List Token) → AreSound text tokens → AreEnded tokens

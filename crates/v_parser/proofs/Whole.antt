@@ -44,6 +44,7 @@ only_of text tokens answer gives file tree = by answer gives
   where
     there : (j : Input) × (file_of text tokens ≡ Ok (file, j))
     there = file_only text tokens file tree.written tree.fit
+
     by : (answer : Result File ParseFault) → Gives (file_of text tokens) answer → IsUnlessMemory file answer
     by (Ok f) gives = same_file f file gives.0 there.0 (file_of text tokens) gives.1 there.1
     by (Err Memory) gives = refl

@@ -10,6 +10,8 @@ mod gates;
 mod lists;
 mod modules;
 mod parsing;
+#[cfg(test)]
+mod tests;
 mod words;
 
 pub use fault::ParseFault;

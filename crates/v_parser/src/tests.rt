@@ -1,0 +1,776 @@
+ghost use Rattle.std.specs.Prelude.{◌≤◌, length};
+
+use super::*;
+use std::alloc::{AllocError, Global};
+use std::fmt::Write;
+use std::test::Fail;
+use v_lexer::{Bit, Literal, tokens};
+use v_tree::*;
+
+// A row is a text and its tree, or the refused token. In a tree a number before a colon is that of
+// the first token of a module, an item or an instance's parentheses.
+const FILES: &str = r##" => 
+module m; endmodule => 0:Module m Absent;
+macromodule m; endmodule => 0:Macromodule m Absent;
+module m(); endmodule => 0:Module m Empty;
+module m(a); endmodule => 0:Module m (a);
+module m(a,b); endmodule => 0:Module m (a,b);
+module \a+ ; endmodule => 0:Module a+ Absent;
+module m(input a); endmodule => 0:Module m (3:Input a);
+module m(input a, b, output c); endmodule => 0:Module m (3:Input a,b,7:Output c);
+module m(inout tri0 [7:0] a, input wire [0:3] b); endmodule => 0:Module m (3:Inout Tri0 [7:0] a,12:Input Wire [0:3] b);
+module m(output [1:0] a, b, input supply1 c); endmodule => 0:Module m (3:Output [1:0] a,b,13:Input Supply1 c);
+module a; endmodule module b; endmodule => 0:Module a Absent; 4:Module b Absent;
+/* c */ module (* x *) m; // y => syntax 3
+module => syntax 1
+module m => syntax 2
+module m; => syntax 3
+module m; endmodul => syntax 4
+module m; endmodule x => syntax 4
+module m; endmodule; => syntax 4
+module wire; => syntax 1
+module 3; => syntax 1
+m => syntax 0
+; => syntax 0
+endmodule => syntax 0
+`x => unsupported 0
+always => unsupported 0
+primitive p(a); => syntax 0
+module m( => syntax 3
+module m(; => syntax 3
+module m(,a); => syntax 3
+module m(a,); => syntax 5
+module m(a b); => syntax 4
+module m(a, input b); => syntax 5
+module m(a[3:0]); => syntax 4
+module m(input); => syntax 4
+module m(input a,); => syntax 6
+module m(input a, wire b); => syntax 6
+module m(input [3] a); => syntax 6
+module m(input [3:0 a); => syntax 7
+module m(input reg a); => unsupported 4
+module m(input trireg a); => syntax 4
+module m(input wire wire a); => syntax 5
+module m(input a = 1); => syntax 5
+module m()) => syntax 4
+module m() => syntax 4
+module m(a) endmodule => syntax 5
+module m #(1) (a); => syntax 2
+"x" => syntax 0
+1.5 => unsupported 0
+1e5 => unsupported 0
+"##;
+
+// The items of a module `m` that begin at token 3.
+const ITEMS: &str = r##"input a; => 3:Input a
+output a, b; => 3:Output a,b
+inout [3:0] a; => 3:Inout [3:0] a
+input wire a; => 3:Input Wire a
+output tri1 [0:7] a, b; => 3:Output Tri1 [0:7] a,b
+wire a; => 3:Wire a
+tri a, b, c; => 3:Tri a,b,c
+wand [3:0] a; => 3:Wand [3:0] a
+triand scalared [3:0] a; => 3:Triand Scalared [3:0] a
+wor vectored [3:0] a; => 3:Wor Vectored [3:0] a
+trior #5 a; => 3:Trior 5#5 a
+tri0 #(1,2,3) a; => 3:Tri0 5#(1,2,3) a
+tri1 #(1:2:3) a; => 3:Tri1 5#(1:2:3) a
+supply0 [1:0] #(1:2:3,4) a; => 3:Supply0 [1:0] 10#(1:2:3,4) a
+supply1 a, b; => 3:Supply1 a,b
+wire a = b; => 3:Wire a=b
+wire a = b, c = 1; => 3:Wire a=b,c=1
+wire (strong0, pull1) a = b; => 3:Wire 5(Strong0,Pull1) a=b
+wire (highz1, weak0) [3:0] #1 a = b; => 3:Wire 5(Highz1,Weak0) [3:0] 15#1 a=b
+wire (supply0, supply1) a; => 3:Wire 5(Supply0,Supply1) a
+trireg a; => 3:Trireg a
+trireg (small) a, b; => 3:Trireg Small a,b
+trireg (medium) vectored [3:0] #(0,0,50) a; => 3:Trireg Medium Vectored [3:0] 15#(0,0,50) a
+trireg (large) #7 a; => 3:Trireg Large 8#7 a
+assign a = b; => 3:Assign a=b
+assign a = b, c[1] = d[2]; => 3:Assign a=b,c[1]=d[2]
+assign (strong0, strong1) #(1,2) {a, b[3:2]} = {c, 2'b1x}; => 3:Assign 5(Strong0,Strong1) 10#(1,2) {a,b[3:2]}={c,2b1x}
+assign {a, {b, {c}}} = 4'sb1000; => 3:Assign {a,{b,{c}}}=4b1000s
+assign a = 'o7; => 3:Assign a=-b00000000000000000000000000000111
+and (y, a); => 3:And 5(y,a)
+nand g (y, a, b); => 3:Nand g6(y,a,b)
+or (y, a), g (z, b); => 3:Or 5(y,a),g12(z,b)
+nor #3 (y, a); => 3:Nor 5#3 7(y,a)
+xor #(3,4) g (y, a); => 3:Xor 5#(3,4) g11(y,a)
+xnor (pull0, weak1) (y, a); => 3:Xnor 5(Pull0,Weak1) 10(y,a)
+buf (highz0, strong1) #1 g (y, z, a[3]); => 3:Buf 5(Highz0,Strong1) 10#1 g13(y,z,a[3])
+not (y, {a}); => 3:Not 5(y,{a})
+bufif0 (y, 1, 1'bz); => 3:Bufif0 5(y,1,1bz)
+bufif1 (y, a, c); => 3:Bufif1 5(y,a,c)
+notif0 #(1,2,3) (y, a, c); => 3:Notif0 5#(1,2,3) 13(y,a,c)
+notif1 (y, a, c); => 3:Notif1 5(y,a,c)
+nmos (y, a, c); => 3:Nmos 5(y,a,c)
+pmos #1 (y, a, c); => 3:Pmos 5#1 7(y,a,c)
+rnmos (y, a, c); => 3:Rnmos 5(y,a,c)
+rpmos (y, a, c); => 3:Rpmos 5(y,a,c)
+cmos g (y, a, n, p); => 3:Cmos g6(y,a,n,p)
+rcmos (y, a, n, p); => 3:Rcmos 5(y,a,n,p)
+tranif0 (a, b, c); => 3:Tranif0 5(a,b,c)
+tranif1 #(1,2) (a, b, c); => 3:Tranif1 5#(1,2) 11(a,b,c)
+rtranif0 (a, b, c); => 3:Rtranif0 5(a,b,c)
+rtranif1 (a, b, c); => 3:Rtranif1 5(a,b,c)
+tran (a, b); => 3:Tran 5(a,b)
+rtran g (a, b), h (c, d); => 3:Rtran g6(a,b),h13(c,d)
+pullup (y); => 3:Pullup 5(y)
+pulldown (strong0) g (y); => 3:Pulldown 5(Strong0) g9(y)
+pullup (pull0, weak1) (y); => 3:Pullup 5(Pull0,Weak1) 10(y)
+u (a); => 3:u 5(a)
+u v (a, b); => 3:u v6(a,b)
+u v (); => 3:u v6()
+u v (,); => 3:u v6(,)
+u v (a, , b); => 3:u v6(a,,b)
+u v (.p(a), .q()); => 3:u v6(7.p=a,13.q=)
+u #2 v (a), w (b); => 3:u 5#2 v8(a),w13(b)
+u (strong0, strong1) #(1,2) v (a); => 3:u 5(Strong0,Strong1) 10#(1,2) v17(a)
+\u+ \v- (a); => 3:u+ v-6(a)
+u v ({a, 3, 2'hx}); => 3:u v6({a,3,2bxx})
+input a; wire b; nand (a, b); => 3:Input a 6:Wire b 9:Nand 11(a,b)
+input; => syntax 4
+input a => syntax 5
+input a b; => syntax 5
+input a,; => syntax 6
+input [3:0; => syntax 7
+input [a:0] b; => syntax 5
+input #1 a; => syntax 4
+input a = b; => syntax 5
+input reg a; => unsupported 4
+wire; => syntax 4
+wire a,; => syntax 6
+wire a = ; => syntax 6
+wire a, b = c; => syntax 7
+wire a = b, c; => syntax 9
+wire (strong0) a = b; => syntax 6
+wire (a) b; => syntax 5
+wire (strong0, strong1 a; => syntax 8
+wire (small) a; => syntax 5
+wire vectored a; => syntax 5
+wire [3:0] [3:0] a; => syntax 9
+wire # a; => syntax 5
+wire #() a; => syntax 6
+wire #(1,) a; => syntax 8
+wire #(1:2) a; => syntax 9
+wire #(1:2:3:4) a; => syntax 11
+wire #1.5 a; => unsupported 5
+wire #1 #2 a; => syntax 6
+wire signed a; => unsupported 4
+wire a[3]; => syntax 5
+trireg (strong0, strong1) a; => syntax 5
+trireg a = b; => syntax 5
+trireg (small a; => syntax 6
+assign a; => syntax 5
+assign a = b => syntax 7
+assign = b; => syntax 4
+assign 1 = b; => syntax 4
+assign {} = b; => syntax 5
+assign {1} = b; => syntax 5
+assign a = {}; => syntax 7
+assign a = {b,}; => syntax 9
+assign a = b,; => syntax 8
+assign a = b[; => syntax 8
+assign a = b[1:]; => syntax 10
+assign a = b[1:2; => syntax 11
+assign a = b[c]; => syntax 8
+assign a = b + c; => syntax 7
+assign a = ~b; => syntax 6
+assign a = (b); => syntax 6
+assign a = "x"; => syntax 6
+assign a = 1e5; => unsupported 6
+assign a == b; => syntax 6
+and; => syntax 4
+and (); => syntax 5
+and (a,); => syntax 7
+and (a,,b); => syntax 7
+and (.a(b)); => syntax 5
+and g; => syntax 5
+and g h (a); => syntax 5
+and (strong0) (a); => syntax 6
+and #1 (strong0, strong1) (a); => syntax 7
+and (a) (b); => syntax 7
+and (a), => syntax 8
+nmos (strong0, strong1) (a); => syntax 5
+tran #1 (a, b); => syntax 4
+pullup #1 (a); => syntax 4
+pullup (strong0, strong1, pull0) (a); => syntax 8
+pulldown () (a); => syntax 5
+u; => syntax 4
+u v; => syntax 5
+u v (.a(b), c); => syntax 12
+u v (a, .b(c)); => syntax 8
+u v (.a); => syntax 8
+u v (.(a)); => syntax 7
+u v (.a(b,c)); => syntax 10
+u v [3:0] (a); => syntax 5
+u #(1,2 v (a); => syntax 9
+u v (a) w (b); => syntax 8
+u .v (a); => syntax 4
+reg a; => unsupported 3
+parameter a; => unsupported 3
+always a; => unsupported 3
+initial a; => unsupported 3
+specify a; => unsupported 3
+function a; => unsupported 3
+generate a; => unsupported 3
+integer a; => unsupported 3
+defparam a; => unsupported 3
+uwire a; => unsupported 3
+end => unsupported 3
+table => syntax 3
+endprimitive => syntax 3
+module n; endmodule => syntax 3
+`define => unsupported 3
+small a; => syntax 3
+strong0 a; => syntax 3
+vectored a; => syntax 3
+; => syntax 3
+1 => syntax 3
+"##;
+
+// Words that the grammar leaves out, each refused as an item.
+const LEFT_OUT: &str =
+    "always automatic begin case casex casez deassign defparam disable edge else end endcase endfunction endgenerate endspecify endtask event for force forever fork function generate genvar if initial integer join localparam negedge parameter posedge real realtime reg release repeat signed specify specparam task time unsigned uwire wait while";
+
+fn show_bytes(shown: &mut String, bytes: &[u8]) -> Result<(), AllocError> {
+    for byte in bytes {
+        shown.push(char::from(*byte))?;
+    }
+    Ok(())
+}
+
+fn show_names(shown: &mut String, names: &PlacedNameList) -> Result<(), AllocError> {
+    for (i, name) in names.as_slice().iter().enumerate() {
+        if i > 0 {
+            shown.push(',')?;
+        }
+        show_bytes(shown, name.text.as_slice())?;
+    }
+    Ok(())
+}
+
+fn show_range(shown: &mut String, range: &Range) -> Result<(), AllocError> {
+    let Range { left, right } = *range;
+    write!(shown, "[{left}:{right}] ")?;
+    Ok(())
+}
+
+fn show_pick(shown: &mut String, pick: &Pick) -> Result<(), AllocError> {
+    show_bytes(shown, pick.name.text.as_slice())?;
+    match &pick.select {
+        Some(select) => {
+            let left = select.left;
+            match select.right {
+                Some(right) => write!(shown, "[{left}:{right}]")?,
+                None => write!(shown, "[{left}]")?,
+            }
+        }
+        None => {}
+    }
+    Ok(())
+}
+
+fn bit_letter(bit: Bit) -> char {
+    match bit {
+        Bit::Zero => '0',
+        Bit::One => '1',
+        Bit::X => 'x',
+        Bit::Z => 'z',
+    }
+}
+
+fn show_literal(shown: &mut String, literal: &Literal) -> Result<(), AllocError> {
+    match literal.size {
+        Some(size) => write!(shown, "{size}b")?,
+        None => shown.push_str("-b")?,
+    }
+    for bit in literal.bits.as_slice() {
+        shown.push(bit_letter(*bit))?;
+    }
+    if literal.signed {
+        shown.push('s')?;
+    }
+    Ok(())
+}
+
+fn show_expr(shown: &mut String, expr: &Expr) -> Result<(), AllocError> {
+    match expr {
+        Expr::Pick(pick) => show_pick(shown, pick),
+        Expr::Number(_, number) => {
+            write!(shown, "{number}")?;
+            Ok(())
+        }
+        Expr::Based(_, literal) => show_literal(shown, literal),
+        Expr::Concat(_, parts) => {
+            shown.push('{')?;
+            for (i, part) in parts.as_slice().iter().enumerate() {
+                if i > 0 {
+                    shown.push(',')?;
+                }
+                show_expr(shown, part)?;
+            }
+            shown.push('}')
+        }
+    }
+}
+
+fn show_target(shown: &mut String, target: &Target) -> Result<(), AllocError> {
+    match target {
+        Target::Pick(pick) => show_pick(shown, pick),
+        Target::Concat(_, parts) => {
+            shown.push('{')?;
+            for (i, part) in parts.as_slice().iter().enumerate() {
+                if i > 0 {
+                    shown.push(',')?;
+                }
+                show_target(shown, part)?;
+            }
+            shown.push('}')
+        }
+    }
+}
+
+fn show_level(shown: &mut String, level: &Level) -> Result<(), AllocError> {
+    let strength = level.strength;
+    let value = if level.of_one { 1 } else { 0 };
+    write!(shown, "{strength:?}{value}")?;
+    Ok(())
+}
+
+fn show_drive(shown: &mut String, drive: &Option<Drive>) -> Result<(), AllocError> {
+    if let Some(drive) = drive {
+        let token = drive.place.token;
+        write!(shown, "{token}(")?;
+        show_level(shown, &drive.first)?;
+        shown.push(',')?;
+        show_level(shown, &drive.second)?;
+        shown.push_str(") ")?;
+    }
+    Ok(())
+}
+
+fn show_levels(shown: &mut String, levels: &Option<PullLevels>) -> Result<(), AllocError> {
+    if let Some(levels) = levels {
+        let token = levels.place.token;
+        write!(shown, "{token}(")?;
+        show_level(shown, &levels.first)?;
+        if let Some(second) = &levels.second {
+            shown.push(',')?;
+            show_level(shown, second)?;
+        }
+        shown.push_str(") ")?;
+    }
+    Ok(())
+}
+
+fn show_values(shown: &mut String, values: &DelayValueList) -> Result<(), AllocError> {
+    shown.push('(')?;
+    for (i, value) in values.as_slice().iter().enumerate() {
+        if i > 0 {
+            shown.push(',')?;
+        }
+        match value {
+            DelayValue::One(n) => write!(shown, "{n}")?,
+            DelayValue::Three(a, b, c) => write!(shown, "{a}:{b}:{c}")?,
+        }
+    }
+    shown.push_str(") ")
+}
+
+fn show_delay(shown: &mut String, delay: &Option<DelaySpec>) -> Result<(), AllocError> {
+    if let Some(spec) = delay {
+        let token = spec.place.token;
+        write!(shown, "{token}#")?;
+        match &spec.delay {
+            Delay::Number(n) => write!(shown, "{n} ")?,
+            Delay::Values(values) => show_values(shown, values)?,
+        }
+    }
+    Ok(())
+}
+
+fn show_net_type(shown: &mut String, net_type: &Option<NetType>) -> Result<(), AllocError> {
+    if let Some(net_type) = net_type {
+        write!(shown, "{net_type:?} ")?;
+    }
+    Ok(())
+}
+
+fn show_range_if_there(shown: &mut String, range: &Option<Range>) -> Result<(), AllocError> {
+    if let Some(range) = range {
+        show_range(shown, range)?;
+    }
+    Ok(())
+}
+
+fn show_spread(shown: &mut String, spread: &Option<Spread>) -> Result<(), AllocError> {
+    if let Some(spread) = spread {
+        if let Some(word) = &spread.word {
+            write!(shown, "{word:?} ")?;
+        }
+        show_range(shown, &spread.range)?;
+    }
+    Ok(())
+}
+
+fn show_valued(shown: &mut String, names: &ValuedNameList) -> Result<(), AllocError> {
+    for (i, valued) in names.as_slice().iter().enumerate() {
+        if i > 0 {
+            shown.push(',')?;
+        }
+        show_bytes(shown, valued.name.text.as_slice())?;
+        shown.push('=')?;
+        show_expr(shown, &valued.value)?;
+    }
+    Ok(())
+}
+
+fn show_net_decl(shown: &mut String, decl: &NetDecl) -> Result<(), AllocError> {
+    let token = decl.place.token;
+    let net_type = decl.net_type;
+    write!(shown, "{token}:{net_type:?} ")?;
+    show_drive(shown, &decl.drive)?;
+    show_spread(shown, &decl.spread)?;
+    show_delay(shown, &decl.delay)?;
+    match &decl.declared {
+        Declared::Names(names) => show_names(shown, names),
+        Declared::Valued(names) => show_valued(shown, names),
+    }
+}
+
+fn show_trireg(shown: &mut String, decl: &TriregDecl) -> Result<(), AllocError> {
+    let token = decl.place.token;
+    write!(shown, "{token}:Trireg ")?;
+    if let Some(charge) = &decl.charge {
+        write!(shown, "{charge:?} ")?;
+    }
+    show_spread(shown, &decl.spread)?;
+    show_delay(shown, &decl.delay)?;
+    show_names(shown, &decl.names)
+}
+
+fn show_assign(shown: &mut String, item: &AssignItem) -> Result<(), AllocError> {
+    let token = item.place.token;
+    write!(shown, "{token}:Assign ")?;
+    show_drive(shown, &item.drive)?;
+    show_delay(shown, &item.delay)?;
+    for (i, pair) in item.pairs.as_slice().iter().enumerate() {
+        if i > 0 {
+            shown.push(',')?;
+        }
+        show_target(shown, &pair.target)?;
+        shown.push('=')?;
+        show_expr(shown, &pair.value)?;
+    }
+    Ok(())
+}
+
+fn show_name_if_there(shown: &mut String, name: &Option<Name>) -> Result<(), AllocError> {
+    if let Some(name) = name {
+        show_bytes(shown, name.text.as_slice())?;
+    }
+    Ok(())
+}
+
+fn show_terms(shown: &mut String, terms: &Terms) -> Result<(), AllocError> {
+    show_name_if_there(shown, &terms.name)?;
+    let token = terms.paren.token;
+    write!(shown, "{token}(")?;
+    for (i, terminal) in terms.terminals.as_slice().iter().enumerate() {
+        if i > 0 {
+            shown.push(',')?;
+        }
+        show_expr(shown, terminal)?;
+    }
+    shown.push(')')
+}
+
+fn show_kind(shown: &mut String, kind: &GateKind) -> Result<(), AllocError> {
+    match kind {
+        GateKind::Logic(gate, drive, delay) => {
+            write!(shown, "{gate:?} ")?;
+            show_drive(shown, drive)?;
+            show_delay(shown, delay)
+        }
+        GateKind::Switch(switch, delay) => {
+            write!(shown, "{switch:?} ")?;
+            show_delay(shown, delay)
+        }
+        GateKind::Tran(tran) => {
+            write!(shown, "{tran:?} ")?;
+            Ok(())
+        }
+        GateKind::Pull(pull, levels) => {
+            write!(shown, "{pull:?} ")?;
+            show_levels(shown, levels)
+        }
+    }
+}
+
+fn show_gates(shown: &mut String, item: &GateItem) -> Result<(), AllocError> {
+    let token = item.place.token;
+    write!(shown, "{token}:")?;
+    show_kind(shown, &item.kind)?;
+    for (i, terms) in item.gates.as_slice().iter().enumerate() {
+        if i > 0 {
+            shown.push(',')?;
+        }
+        show_terms(shown, terms)?;
+    }
+    Ok(())
+}
+
+fn show_connection(shown: &mut String, connection: &Connection) -> Result<(), AllocError> {
+    let token = connection.place.token;
+    write!(shown, "{token}.")?;
+    show_bytes(shown, connection.port.text.as_slice())?;
+    shown.push('=')?;
+    if let Some(value) = &connection.value {
+        show_expr(shown, value)?;
+    }
+    Ok(())
+}
+
+fn show_by_place(shown: &mut String, values: &OptionalExprList) -> Result<(), AllocError> {
+    for (i, value) in values.as_slice().iter().enumerate() {
+        if i > 0 {
+            shown.push(',')?;
+        }
+        if let Some(value) = value {
+            show_expr(shown, value)?;
+        }
+    }
+    Ok(())
+}
+
+fn show_by_name(shown: &mut String, connections: &ConnectionList) -> Result<(), AllocError> {
+    for (i, connection) in connections.as_slice().iter().enumerate() {
+        if i > 0 {
+            shown.push(',')?;
+        }
+        show_connection(shown, connection)?;
+    }
+    Ok(())
+}
+
+fn show_inst(shown: &mut String, inst: &Inst) -> Result<(), AllocError> {
+    show_name_if_there(shown, &inst.name)?;
+    let token = inst.paren.token;
+    write!(shown, "{token}(")?;
+    match &inst.connections {
+        Connections::ByPlace(values) => show_by_place(shown, values)?,
+        Connections::ByName(connections) => show_by_name(shown, connections)?,
+    }
+    shown.push(')')
+}
+
+fn show_instance(shown: &mut String, instance: &Instance) -> Result<(), AllocError> {
+    let token = instance.name.place.token;
+    write!(shown, "{token}:")?;
+    show_bytes(shown, instance.name.text.as_slice())?;
+    shown.push(' ')?;
+    show_drive(shown, &instance.drive)?;
+    show_delay(shown, &instance.delay)?;
+    for (i, inst) in instance.instances.as_slice().iter().enumerate() {
+        if i > 0 {
+            shown.push(',')?;
+        }
+        show_inst(shown, inst)?;
+    }
+    Ok(())
+}
+
+fn show_port_decl(shown: &mut String, decl: &PortDecl) -> Result<(), AllocError> {
+    let token = decl.place.token;
+    let direction = decl.direction;
+    write!(shown, "{token}:{direction:?} ")?;
+    show_net_type(shown, &decl.net_type)?;
+    show_range_if_there(shown, &decl.range)?;
+    show_names(shown, &decl.names)
+}
+
+fn show_item(shown: &mut String, item: &Item) -> Result<(), AllocError> {
+    match item {
+        Item::Ports(decl) => show_port_decl(shown, decl),
+        Item::Nets(decl) => show_net_decl(shown, decl),
+        Item::Trireg(decl) => show_trireg(shown, decl),
+        Item::Assign(item) => show_assign(shown, item),
+        Item::Gates(item) => show_gates(shown, item),
+        Item::Instances(instance) => show_instance(shown, instance),
+    }
+}
+
+fn show_items(shown: &mut String, items: &ItemList) -> Result<(), AllocError> {
+    for (i, item) in items.as_slice().iter().enumerate() {
+        if i > 0 {
+            shown.push(' ')?;
+        }
+        show_item(shown, item)?;
+    }
+    Ok(())
+}
+
+fn show_ansi_port(shown: &mut String, port: &AnsiPort) -> Result<(), AllocError> {
+    let token = port.place.token;
+    let direction = port.direction;
+    write!(shown, "{token}:{direction:?} ")?;
+    show_net_type(shown, &port.net_type)?;
+    show_range_if_there(shown, &port.range)?;
+    show_bytes(shown, port.name.text.as_slice())
+}
+
+fn show_entries(shown: &mut String, entries: &AnsiEntryList) -> Result<(), AllocError> {
+    for entry in entries.as_slice() {
+        shown.push(',')?;
+        match entry {
+            AnsiEntry::Port(port) => show_ansi_port(shown, port)?,
+            AnsiEntry::Name(name) => show_bytes(shown, name.text.as_slice())?,
+        }
+    }
+    Ok(())
+}
+
+fn show_ports(shown: &mut String, ports: &Ports) -> Result<(), AllocError> {
+    match ports {
+        Ports::Absent => shown.push_str("Absent"),
+        Ports::Empty => shown.push_str("Empty"),
+        Ports::Names(names) => {
+            shown.push('(')?;
+            show_names(shown, names)?;
+            shown.push(')')
+        }
+        Ports::Ansi(first, others) => {
+            shown.push('(')?;
+            show_ansi_port(shown, first)?;
+            show_entries(shown, others)?;
+            shown.push(')')
+        }
+    }
+}
+
+fn show_module(shown: &mut String, module: &Module) -> Result<(), AllocError> {
+    let token = module.place.token;
+    let word = module.word;
+    write!(shown, "{token}:{word:?} ")?;
+    show_bytes(shown, module.name.text.as_slice())?;
+    shown.push(' ')?;
+    show_ports(shown, &module.ports)?;
+    shown.push(';')?;
+    show_items(shown, &module.items)
+}
+
+fn show_file(shown: &mut String, file: &File) -> Result<(), AllocError> {
+    for (i, module) in file.modules.as_slice().iter().enumerate() {
+        if i > 0 {
+            shown.push(' ')?;
+        }
+        show_module(shown, module)?;
+    }
+    Ok(())
+}
+
+fn show_answer(shown: &mut String, answer: Result<File, ParseFault>) -> Result<(), AllocError> {
+    match answer {
+        Ok(file) => show_file(shown, &file),
+        Err(ParseFault::Unsupported(token)) => {
+            write!(shown, "unsupported {token}")?;
+            Ok(())
+        }
+        Err(ParseFault::Syntax(token)) => {
+            write!(shown, "syntax {token}")?;
+            Ok(())
+        }
+        Err(ParseFault::Memory) => shown.push_str("memory"),
+    }
+}
+
+/// The tree of a text, or its fault.
+fn parsed(alloc: Global, text: &str) -> Result<String, AllocError> {
+    let mut shown = String::new(alloc);
+    if text.len() > 4096 {
+        return Ok(shown);
+    }
+    match tokens(alloc, text.as_bytes()) {
+        Ok(list) => show_answer(&mut shown, parse(alloc, text.as_bytes(), &list))?,
+        Err(fault) => write!(shown, "{fault}")?,
+    }
+    Ok(shown)
+}
+
+#[test]
+fn each_file_has_its_tree_or_its_refused_token(rt: HostRuntime) -> Result<(), Fail> {
+    for row in FILES.lines() {
+        let (text, wanted) = row.split_once(" => ").ok_or("no row")?;
+        let shown = parsed(rt.alloc(), text)?;
+        assert_eq!(rt; shown.as_str(), wanted, "of {text}");
+    }
+    Ok(())
+}
+
+/// A module with an item.
+fn around(alloc: Global, item: &str) -> Result<String, AllocError> {
+    let mut text = String::new(alloc);
+    text.push_str("module m; ")?;
+    text.push_str(item)?;
+    text.push_str(" endmodule")?;
+    Ok(text)
+}
+
+/// What is wanted of a module with an item.
+fn wanted_around(alloc: Global, wanted: &str) -> Result<String, AllocError> {
+    let mut text = String::new(alloc);
+    if !wanted.starts_with("syntax") && !wanted.starts_with("unsupported") {
+        text.push_str("0:Module m Absent;")?;
+    }
+    text.push_str(wanted)?;
+    Ok(text)
+}
+
+#[test]
+fn each_item_has_its_tree_or_its_refused_token(rt: HostRuntime) -> Result<(), Fail> {
+    for row in ITEMS.lines() {
+        let (item, wanted) = row.split_once(" => ").ok_or("no row")?;
+        let text = around(rt.alloc(), item)?;
+        let shown = parsed(rt.alloc(), text.as_str())?;
+        let wanted = wanted_around(rt.alloc(), wanted)?;
+        assert_eq!(rt; shown.as_str(), wanted.as_str(), "of {item}");
+    }
+    Ok(())
+}
+
+#[test]
+fn words_that_are_left_out_are_unsupported(rt: HostRuntime) -> Result<(), Fail> {
+    for word in LEFT_OUT.split(' ') {
+        let text = around(rt.alloc(), word)?;
+        let shown = parsed(rt.alloc(), text.as_str())?;
+        assert_eq!(rt; shown.as_str(), "unsupported 3", "of {word}");
+    }
+    Ok(())
+}
+
+/// An assignment of a name in so many braces.
+fn nested(alloc: Global, depth: u32, open: &str, close: &str) -> Result<String, AllocError> {
+    let mut text = String::new(alloc);
+    text.push_str("module m; assign a = ")?;
+    for _ in 0..depth {
+        text.push_str(open)?;
+    }
+    text.push('b')?;
+    for _ in 0..depth {
+        text.push_str(close)?;
+    }
+    text.push_str("; endmodule")?;
+    Ok(text)
+}
+
+#[test]
+fn concatenations_stand_64_deep_at_most(rt: HostRuntime) -> Result<(), Fail> {
+    let within = nested(rt.alloc(), 64, "{", "}")?;
+    assert!(rt; parsed(rt.alloc(), within.as_str())?.starts_with("0:Module"));
+    let wide = nested(rt.alloc(), 64, "{c,", "}")?;
+    assert!(rt; parsed(rt.alloc(), wide.as_str())?.starts_with("0:Module"));
+    let beyond = nested(rt.alloc(), 65, "{", "}")?;
+    assert_eq!(rt; parsed(rt.alloc(), beyond.as_str())?.as_str(), "syntax 70");
+    Ok(())
+}
