@@ -5,4 +5,5 @@ pub mod ExprRules
 pub mod DriveRules
 pub mod DeclarationRules
 pub mod GateRules
+pub mod ItemKinds
 pub mod ModuleRules
