@@ -1,5 +1,5 @@
 -- Rules of modules and files, and what they say of a whole list of tokens.
-use Rattle.std.proofs.Common.{◌≡◌, ◌≢◌, ℕ, zero, suc, ◌+◌, ◌<◌, ◌≤◌, Bool, true, false, not, ◌&&◌, if◌then◌else◌, List, [], ◌∷◌, ◌++◌, length, Option, Some, None, is_some, Result, Ok, codes, ◌⊎◌, inl, inr, refl, sym, ap, subst, ◌∙◌, arith, append-nil, length-append}
+use Rattle.std.proofs.Common.{◌≡◌, ◌≢◌, ℕ, suc, ◌+◌, ◌<◌, ◌≤◌, Bool, true, false, not, if◌then◌else◌, List, [], ◌∷◌, ◌++◌, length, Option, Some, None, Ok, codes, ◌⊎◌, inl, inr, refl, sym, ap, subst, ◌∙◌, arith, append-nil, length-append}
 use Rattle.std.specs.Prelude.{nat_lt}
 use Rattle.std.proofs.lemmas.Bool.{not-true, cases_lt}
 use Rattle.v_lexer.specs.declared.token.Token.{Token}
@@ -32,24 +32,23 @@ use Rattle.v_tree.specs.declared.modules.Item.{Item}
 use Rattle.v_tree.specs.declared.modules.Item.TheVariants as item
 use Rattle.v_tree.specs.declared.modules.Module.{Module}
 use Rattle.v_tree.specs.declared.modules.File.{File}
-use Rattle.v_tree.specs.Written.{Form, form_of, form_by, number_form, based_form, slice_of, Written, bare, AreWritten, written_if_there, behind_commas, between_commas, one_by_one}
+use Rattle.v_tree.specs.Written.{form_of, form_by, based_form, slice_of, Written, bare, AreWritten, between_commas, one_by_one}
 use Rattle.v_tree.specs.Written as form
 use Rattle.v_tree.specs.Fit as fit
 use Rattle.v_tree.specs.Spelling as spell
-use Rattle.v_parser.specs.Input.{Input, Reader, front, next, pure, is_mark, is_finish, choice, commas, separated, name, skip, ◌<$>◌, ◌&◌}
+use Rattle.v_parser.specs.Input.{Input, Reader, front, next, pure, is_mark, is_finish, choice, name, ◌<$>◌}
 use Rattle.v_parser.specs.Expressions.{sees_mark, sees_name}
 use Rattle.v_parser.specs.Words.{sees_net_type}
 use Rattle.v_parser.specs.Gates.{instance}
-use Rattle.v_parser.specs.Declarations.{port_decl, net_decl, trireg_decl, assign_item}
 use Rattle.v_parser.specs.Modules.{sees_mark_second, sees_name_second, ends_module}
 use Rattle.v_parser.specs.Modules as read
-use Rattle.v_parser.proofs.Rules.{Rule, Follow, anything, no_comma, begins, first_form, IsSource, IsEnd, Takes, takes_length, ok_is, ok_of, whole, written_takes, takes_written, map_rule, variant_rule, refit_rule, follow_rule, pair_rule, optional_rule, choice_rule, commas_rule, separated_rule, many_rule}
+use Rattle.v_parser.proofs.Rules.{Rule, Follow, anything, begins, first_form, IsSource, IsEnd, Takes, takes_length, ok_is, ok_of, whole, written_takes, takes_written, map_rule, variant_rule, refit_rule, follow_rule, pair_rule, optional_rule, choice_rule, commas_rule, separated_rule, many_rule}
 use Rattle.v_parser.proofs.TokenRules.{name_rule, skip_rule, skip_word_rule, direction_rule, opening_rule, finish_rule}
 use Rattle.v_parser.proofs.ExprRules.{range_rule}
 use Rattle.v_parser.proofs.DriveRules.{free_if_there}
 use Rattle.v_parser.proofs.DeclarationRules.{may_skip, no_net_type, net_type_begins, net_type_rule, port_decl_rule, net_decl_rule, trireg_decl_rule, assign_item_rule}
 use Rattle.v_parser.proofs.GateRules.{IsLogicKind, IsSwitchKind, IsTranKind, IsPullKind, logic_item_rule, switch_item_rule, tran_item_rule, pull_item_rule, instance_rule}
-use Rattle.v_parser.proofs.ItemKinds.{index, test_at, index_holds, index_fails, item_tests, gate_number, item_number, item_index}
+use Rattle.v_parser.proofs.ItemKinds.{test_at, index_holds, index_fails, item_tests, gate_number, item_number, item_index}
 
 -- ---- items
 
@@ -60,7 +59,7 @@ IsItem n x = fit.IsFitItem x × (item_number x ≡ n)
 abbrev IsItemFrom : ℕ → Item → Type 0
 IsItemFrom n x = fit.IsFitItem x × (n ≤ item_number x)
 
--- an item with a number is one from that number on, and so is a later one
+-- an item with a number, or a later one, is one from that number on
 from_first : (n : ℕ) (x : Item) → IsItem n x ⊎ IsItemFrom (suc n) x → IsItemFrom n x
 from_first n x (inl f) = (f.0, omega (arith, f.1))
 from_first n x (inr f) = (f.0, omega (arith, f.1))
@@ -108,35 +107,42 @@ gates_rule : (n : ℕ) {p : Reader GateItem} → 5 ≤ n → n ≤ 8 → Rule p 
 gates_rule n low high rule =
     refit_rule (variant_rule rule item.Gates spell.module_item (λ a. refl)) (λ x f. subst (IsItem n) (sym f.1) f.2) (λ x f. gates_from n x low high f)
 
--- the number of each kind of gates, and the kind with each number
+-- logic gates have the number 5
 logic_number : (kind : GateKind) → IsLogicKind kind → gate_number kind ≡ 5
 logic_number (gates.Logic kind strength time) h = refl
 logic_number kind h = absurd h
 
+-- gates with the number 5 are logic gates
 number_logic : (kind : GateKind) → gate_number kind ≡ 5 → IsLogicKind kind
 number_logic (gates.Logic kind strength time) e = tt
 number_logic kind e = absurd (omega (arith, e))
 
+-- switches have the number 6
 switch_number : (kind : GateKind) → IsSwitchKind kind → gate_number kind ≡ 6
 switch_number (gates.Switch kind time) h = refl
 switch_number kind h = absurd h
 
+-- gates with the number 6 are switches
 number_switch : (kind : GateKind) → gate_number kind ≡ 6 → IsSwitchKind kind
 number_switch (gates.Switch kind time) e = tt
 number_switch kind e = absurd (omega (arith, e))
 
+-- pass gates have the number 7
 tran_number : (kind : GateKind) → IsTranKind kind → gate_number kind ≡ 7
 tran_number (gates.Tran kind) h = refl
 tran_number kind h = absurd h
 
+-- gates with the number 7 are pass gates
 number_tran : (kind : GateKind) → gate_number kind ≡ 7 → IsTranKind kind
 number_tran (gates.Tran kind) e = tt
 number_tran kind e = absurd (omega (arith, e))
 
+-- pull gates have the number 8
 pull_number : (kind : GateKind) → IsPullKind kind → gate_number kind ≡ 8
 pull_number (gates.Pull kind levels) h = refl
 pull_number kind h = absurd h
 
+-- gates with the number 8 are pull gates
 number_pull : (kind : GateKind) → gate_number kind ≡ 8 → IsPullKind kind
 number_pull (gates.Pull kind levels) e = tt
 number_pull kind e = absurd (omega (arith, e))
@@ -147,24 +153,28 @@ instances_from (item.Instances i) f = (i, refl, f.0)
 instances_from (item.Gates g) f = absurd (omega (arith, f.1, gate_number_within g.kind))
 instances_from x f = absurd (omega (arith, f.1))
 
+-- instances
 instances_rule : Rule (item.Instances <$> instance) spell.module_item (IsItemFrom 9) anything
 instances_rule =
     refit_rule (variant_rule instance_rule item.Instances spell.module_item (λ a. refl))
         (λ x f. subst (IsItemFrom 9) (sym f.1) (f.2, omega arith)) instances_from
 
--- gates of a kind, or instances
+-- pull gates, or instances
 pulls_rule : Rule read.pulls spell.module_item (IsItemFrom 8) anything
 unfolding read.pulls
 pulls_rule = item_choice 8 (omega arith) (gates_rule 8 (omega arith) (omega arith) (refit_rule pull_item_rule (λ g f. (f.0, pull_number g.kind f.1)) (λ g f. (f.0, number_pull g.kind f.1)))) instances_rule
 
+-- pass gates or what comes later
 trans_rule : Rule read.trans spell.module_item (IsItemFrom 7) anything
 unfolding read.trans
 trans_rule = item_choice 7 (omega arith) (gates_rule 7 (omega arith) (omega arith) (refit_rule tran_item_rule (λ g f. (f.0, tran_number g.kind f.1)) (λ g f. (f.0, number_tran g.kind f.1)))) pulls_rule
 
+-- switches or what comes later
 switches_rule : Rule read.switches spell.module_item (IsItemFrom 6) anything
 unfolding read.switches
 switches_rule = item_choice 6 (omega arith) (gates_rule 6 (omega arith) (omega arith) (refit_rule switch_item_rule (λ g f. (f.0, switch_number g.kind f.1)) (λ g f. (f.0, number_switch g.kind f.1)))) trans_rule
 
+-- logic gates or what comes later
 gates_or_later_rule : Rule read.gates spell.module_item (IsItemFrom 5) anything
 unfolding read.gates
 gates_or_later_rule = item_choice 5 (omega arith) (gates_rule 5 (omega arith) (omega arith) (refit_rule logic_item_rule (λ g f. (f.0, logic_number g.kind f.1)) (λ g f. (f.0, number_logic g.kind f.1)))) switches_rule
