@@ -79,7 +79,7 @@ abbrev no_range : Follow
 no_range ws = anything ws && not (begins (sees_mark 91) ws)
 
 -- no type of nets is seen
-abbrev no_net_type : Follow
+abbrev pub no_net_type : Follow
 no_net_type ws = anything ws && not (begins sees_net_type ws)
 
 -- `dir [ nettype ] [ range ] Name , .. ;`

@@ -7,6 +7,7 @@ pub mod ExprRules
 pub mod DriveRules
 pub mod DeclarationRules
 pub mod GateRules
+pub mod ItemKinds
 pub mod ModuleRules
 pub mod Source
 pub mod Whole
