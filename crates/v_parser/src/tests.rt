@@ -17,7 +17,7 @@ module m(a); endmodule => 0:Module m (a);
 module m(a,b); endmodule => 0:Module m (a,b);
 module \a+ ; endmodule => 0:Module a+ Absent;
 module m(input a); endmodule => 0:Module m (3:Input a);
-module m(input a, b, output c); endmodule => 0:Module m (3:Input a,b,7:Output c);
+module m(input a, b, output c); endmodule => 0:Module m (3:Input a,b,8:Output c);
 module m(inout tri0 [7:0] a, input wire [0:3] b); endmodule => 0:Module m (3:Inout Tri0 [7:0] a,12:Input Wire [0:3] b);
 module m(output [1:0] a, b, input supply1 c); endmodule => 0:Module m (3:Output [1:0] a,b,13:Input Supply1 c);
 module a; endmodule module b; endmodule => 0:Module a Absent; 4:Module b Absent;
@@ -47,7 +47,7 @@ module m(input); => syntax 4
 module m(input a,); => syntax 6
 module m(input a, wire b); => syntax 6
 module m(input [3] a); => syntax 6
-module m(input [3:0 a); => syntax 7
+module m(input [3:0 a); => syntax 8
 module m(input reg a); => unsupported 4
 module m(input trireg a); => syntax 4
 module m(input wire wire a); => syntax 5
@@ -72,68 +72,68 @@ tri a, b, c; => 3:Tri a,b,c
 wand [3:0] a; => 3:Wand [3:0] a
 triand scalared [3:0] a; => 3:Triand Scalared [3:0] a
 wor vectored [3:0] a; => 3:Wor Vectored [3:0] a
-trior #5 a; => 3:Trior 5#5 a
-tri0 #(1,2,3) a; => 3:Tri0 5#(1,2,3) a
-tri1 #(1:2:3) a; => 3:Tri1 5#(1:2:3) a
-supply0 [1:0] #(1:2:3,4) a; => 3:Supply0 [1:0] 10#(1:2:3,4) a
+trior #5 a; => 3:Trior 4#5 a
+tri0 #(1,2,3) a; => 3:Tri0 4#(1,2,3) a
+tri1 #(1:2:3) a; => 3:Tri1 4#(1:2:3) a
+supply0 [1:0] #(1:2:3,4) a; => 3:Supply0 [1:0] 9#(1:2:3,4) a
 supply1 a, b; => 3:Supply1 a,b
 wire a = b; => 3:Wire a=b
 wire a = b, c = 1; => 3:Wire a=b,c=1
-wire (strong0, pull1) a = b; => 3:Wire 5(Strong0,Pull1) a=b
-wire (highz1, weak0) [3:0] #1 a = b; => 3:Wire 5(Highz1,Weak0) [3:0] 15#1 a=b
-wire (supply0, supply1) a; => 3:Wire 5(Supply0,Supply1) a
+wire (strong0, pull1) a = b; => 3:Wire 4(Strong0,Pull1) a=b
+wire (highz1, weak0) [3:0] #1 a = b; => 3:Wire 4(Highz1,Weak0) [3:0] 14#1 a=b
+wire (supply0, supply1) a; => 3:Wire 4(Supply0,Supply1) a
 trireg a; => 3:Trireg a
 trireg (small) a, b; => 3:Trireg Small a,b
-trireg (medium) vectored [3:0] #(0,0,50) a; => 3:Trireg Medium Vectored [3:0] 15#(0,0,50) a
-trireg (large) #7 a; => 3:Trireg Large 8#7 a
+trireg (medium) vectored [3:0] #(0,0,50) a; => 3:Trireg Medium Vectored [3:0] 13#(0,0,50) a
+trireg (large) #7 a; => 3:Trireg Large 7#7 a
 assign a = b; => 3:Assign a=b
 assign a = b, c[1] = d[2]; => 3:Assign a=b,c[1]=d[2]
-assign (strong0, strong1) #(1,2) {a, b[3:2]} = {c, 2'b1x}; => 3:Assign 5(Strong0,Strong1) 10#(1,2) {a,b[3:2]}={c,2b1x}
+assign (strong0, strong1) #(1,2) {a, b[3:2]} = {c, 2'b1x}; => 3:Assign 4(Strong0,Strong1) 9#(1,2) {a,b[3:2]}={c,2b1x}
 assign {a, {b, {c}}} = 4'sb1000; => 3:Assign {a,{b,{c}}}=4b1000s
 assign a = 'o7; => 3:Assign a=-b00000000000000000000000000000111
-and (y, a); => 3:And 5(y,a)
-nand g (y, a, b); => 3:Nand g6(y,a,b)
-or (y, a), g (z, b); => 3:Or 5(y,a),g12(z,b)
-nor #3 (y, a); => 3:Nor 5#3 7(y,a)
-xor #(3,4) g (y, a); => 3:Xor 5#(3,4) g11(y,a)
-xnor (pull0, weak1) (y, a); => 3:Xnor 5(Pull0,Weak1) 10(y,a)
-buf (highz0, strong1) #1 g (y, z, a[3]); => 3:Buf 5(Highz0,Strong1) 10#1 g13(y,z,a[3])
-not (y, {a}); => 3:Not 5(y,{a})
-bufif0 (y, 1, 1'bz); => 3:Bufif0 5(y,1,1bz)
-bufif1 (y, a, c); => 3:Bufif1 5(y,a,c)
-notif0 #(1,2,3) (y, a, c); => 3:Notif0 5#(1,2,3) 13(y,a,c)
-notif1 (y, a, c); => 3:Notif1 5(y,a,c)
-nmos (y, a, c); => 3:Nmos 5(y,a,c)
-pmos #1 (y, a, c); => 3:Pmos 5#1 7(y,a,c)
-rnmos (y, a, c); => 3:Rnmos 5(y,a,c)
-rpmos (y, a, c); => 3:Rpmos 5(y,a,c)
-cmos g (y, a, n, p); => 3:Cmos g6(y,a,n,p)
-rcmos (y, a, n, p); => 3:Rcmos 5(y,a,n,p)
-tranif0 (a, b, c); => 3:Tranif0 5(a,b,c)
-tranif1 #(1,2) (a, b, c); => 3:Tranif1 5#(1,2) 11(a,b,c)
-rtranif0 (a, b, c); => 3:Rtranif0 5(a,b,c)
-rtranif1 (a, b, c); => 3:Rtranif1 5(a,b,c)
-tran (a, b); => 3:Tran 5(a,b)
-rtran g (a, b), h (c, d); => 3:Rtran g6(a,b),h13(c,d)
-pullup (y); => 3:Pullup 5(y)
-pulldown (strong0) g (y); => 3:Pulldown 5(Strong0) g9(y)
-pullup (pull0, weak1) (y); => 3:Pullup 5(Pull0,Weak1) 10(y)
-u (a); => 3:u 5(a)
-u v (a, b); => 3:u v6(a,b)
-u v (); => 3:u v6()
-u v (,); => 3:u v6(,)
-u v (a, , b); => 3:u v6(a,,b)
-u v (.p(a), .q()); => 3:u v6(7.p=a,13.q=)
-u #2 v (a), w (b); => 3:u 5#2 v8(a),w13(b)
-u (strong0, strong1) #(1,2) v (a); => 3:u 5(Strong0,Strong1) 10#(1,2) v17(a)
-\u+ \v- (a); => 3:u+ v-6(a)
-u v ({a, 3, 2'hx}); => 3:u v6({a,3,2bxx})
-input a; wire b; nand (a, b); => 3:Input a 6:Wire b 9:Nand 11(a,b)
+and (y, a); => 3:And 4(y,a)
+nand g (y, a, b); => 3:Nand g5(y,a,b)
+or (y, a), g (z, b); => 3:Or 4(y,a),g11(z,b)
+nor #3 (y, a); => 3:Nor 4#3 6(y,a)
+xor #(3,4) g (y, a); => 3:Xor 4#(3,4) g11(y,a)
+xnor (pull0, weak1) (y, a); => 3:Xnor 4(Pull0,Weak1) 9(y,a)
+buf (highz0, strong1) #1 g (y, z, a[3]); => 3:Buf 4(Highz0,Strong1) 9#1 g12(y,z,a[3])
+not (y, {a}); => 3:Not 4(y,{a})
+bufif0 (y, 1, 1'bz); => 3:Bufif0 4(y,1,1bz)
+bufif1 (y, a, c); => 3:Bufif1 4(y,a,c)
+notif0 #(1,2,3) (y, a, c); => 3:Notif0 4#(1,2,3) 12(y,a,c)
+notif1 (y, a, c); => 3:Notif1 4(y,a,c)
+nmos (y, a, c); => 3:Nmos 4(y,a,c)
+pmos #1 (y, a, c); => 3:Pmos 4#1 6(y,a,c)
+rnmos (y, a, c); => 3:Rnmos 4(y,a,c)
+rpmos (y, a, c); => 3:Rpmos 4(y,a,c)
+cmos g (y, a, n, p); => 3:Cmos g5(y,a,n,p)
+rcmos (y, a, n, p); => 3:Rcmos 4(y,a,n,p)
+tranif0 (a, b, c); => 3:Tranif0 4(a,b,c)
+tranif1 #(1,2) (a, b, c); => 3:Tranif1 4#(1,2) 10(a,b,c)
+rtranif0 (a, b, c); => 3:Rtranif0 4(a,b,c)
+rtranif1 (a, b, c); => 3:Rtranif1 4(a,b,c)
+tran (a, b); => 3:Tran 4(a,b)
+rtran g (a, b), h (c, d); => 3:Rtran g5(a,b),h12(c,d)
+pullup (y); => 3:Pullup 4(y)
+pulldown (strong0) g (y); => 3:Pulldown 4(Strong0) g8(y)
+pullup (pull0, weak1) (y); => 3:Pullup 4(Pull0,Weak1) 9(y)
+u (a); => 3:u 4(a)
+u v (a, b); => 3:u v5(a,b)
+u v (); => 3:u v5()
+u v (,); => 3:u v5(,)
+u v (a, , b); => 3:u v5(a,,b)
+u v (.p(a), .q()); => 3:u v5(6.p=a,12.q=)
+u #2 v (a), w (b); => 3:u 4#2 v7(a),w12(b)
+u (strong0, strong1) #(1,2) v (a); => 3:u 4(Strong0,Strong1) 9#(1,2) v16(a)
+\u+ \v- (a); => 3:u+ v-5(a)
+u v ({a, 3, 2'hx}); => 3:u v5({a,3,2bxx})
+input a; wire b; nand (a, b); => 3:Input a 6:Wire b 9:Nand 10(a,b)
 input; => syntax 4
 input a => syntax 5
 input a b; => syntax 5
 input a,; => syntax 6
-input [3:0; => syntax 7
+input [3:0; => syntax 8
 input [a:0] b; => syntax 5
 input #1 a; => syntax 4
 input a = b; => syntax 5
@@ -218,7 +218,7 @@ integer a; => unsupported 3
 defparam a; => unsupported 3
 uwire a; => unsupported 3
 end => unsupported 3
-table => syntax 3
+endtable => syntax 3
 endprimitive => syntax 3
 module n; endmodule => syntax 3
 `define => unsupported 3
