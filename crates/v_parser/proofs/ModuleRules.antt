@@ -77,9 +77,9 @@ item_choice : (n : ℕ) {p q : Reader Item} → n < 9 → Rule p spell.module_it
     → Rule (choice (λ f g. test_at item_tests n f) p q) spell.module_item (IsItemFrom n) anything
 item_choice n few first later =
     refit_rule (choice_rule (λ f g. test_at item_tests n f) first later
-        (λ x ws f g. index_holds item_tests n (first_form (spell.module_item x ++ ws)) (item_index x ws ∙ f.1) few)
-        (λ x ws f g. index_fails item_tests n (first_form (spell.module_item x ++ ws)) (omega (arith, item_index x ws, f.1))))
-        (from_first n) (first_or_later n)
+    (λ x ws f g. index_holds item_tests n (first_form (spell.module_item x ++ ws)) (item_index x ws ∙ f.1) few)
+    (λ x ws f g. index_fails item_tests n (first_form (spell.module_item x ++ ws)) (omega (arith, item_index x ws, f.1))))
+    (from_first n) (first_or_later n)
 
 -- each kind of gates has a number from 5 to 8
 gate_number_within : (kind : GateKind) → (5 ≤ gate_number kind) × (gate_number kind ≤ 8)
@@ -157,7 +157,7 @@ instances_from x f = absurd (omega (arith, f.1))
 instances_rule : Rule (item.Instances <$> instance) spell.module_item (IsItemFrom 9) anything
 instances_rule =
     refit_rule (variant_rule instance_rule item.Instances spell.module_item (λ a. refl))
-        (λ x f. subst (IsItemFrom 9) (sym f.1) (f.2, omega arith)) instances_from
+    (λ x f. subst (IsItemFrom 9) (sym f.1) (f.2, omega arith)) instances_from
 
 -- pull gates, or instances
 pulls_rule : Rule read.pulls spell.module_item (IsItemFrom 8) anything
@@ -229,8 +229,8 @@ pub module_item_rule : Rule read.module_item spell.module_item fit.IsFitItem any
 unfolding read.module_item
 module_item_rule =
     refit_rule (item_choice 1 (omega arith)
-        (refit_rule (variant_rule port_decl_rule item.Ports spell.module_item (λ a. refl)) (λ x f. subst (IsItem 1) (sym f.1) (f.2, refl)) ports_from) nets_rule)
-        (λ x f. f.0) (λ x f. (f, item_number_some x))
+    (refit_rule (variant_rule port_decl_rule item.Ports spell.module_item (λ a. refl)) (λ x f. subst (IsItem 1) (sym f.1) (f.2, refl)) ports_from) nets_rule)
+    (λ x f. f.0) (λ x f. (f, item_number_some x))
 
 -- ---- ports
 
@@ -242,14 +242,14 @@ ansi_port_rule : Rule read.ansi_port spell.ansi_port fit.IsFitAnsiPort anything
 unfolding read.ansi_port
 ansi_port_rule =
     refit_rule (map_rule (pair_rule direction_rule
-        (pair_rule (optional_rule sees_net_type net_type_rule (λ x ws f. net_type_begins x ws))
-        (pair_rule (optional_rule (sees_mark 91) range_rule (λ x ws f. refl)) name_rule
-            (λ y ws f g. refl))
-            (λ y ws f g. may_skip no_net_type spell.range y.0 (spell.name y.1) ws (λ x. refl) refl))
-            (λ y ws f g. refl))
-        read.ansi_port_of ansi_parts (λ b. refl) (λ a. refl))
-        (λ x f. record { range = f.1.1.0; name = f.1.1.1 })
-        (λ x f. (tt, (free_if_there x.net_type, (f.range, f.name))))
+    (pair_rule (optional_rule sees_net_type net_type_rule (λ x ws f. net_type_begins x ws))
+    (pair_rule (optional_rule (sees_mark 91) range_rule (λ x ws f. refl)) name_rule
+    (λ y ws f g. refl))
+    (λ y ws f g. may_skip no_net_type spell.range y.0 (spell.name y.1) ws (λ x. refl) refl))
+    (λ y ws f g. refl))
+    read.ansi_port_of ansi_parts (λ b. refl) (λ a. refl))
+    (λ x f. record { range = f.1.1.0; name = f.1.1.1 })
+    (λ x f. (tt, (free_if_there x.net_type, (f.range, f.name))))
 
 abbrev IsNameEntry : AnsiEntry → Type 0
 IsNameEntry x = (n : Name) × (x ≡ entry.Name n) × fit.IsFitName n
@@ -272,9 +272,9 @@ ansi_entry_rule : Rule read.ansi_entry spell.ansi_entry fit.IsFitAnsiEntry anyth
 unfolding read.ansi_entry
 ansi_entry_rule =
     refit_rule (choice_rule sees_name (variant_rule name_rule entry.Name spell.ansi_entry (λ a. refl)) (variant_rule ansi_port_rule entry.Port spell.ansi_entry (λ a. refl))
-        (λ x ws f g. ap (λ (e : AnsiEntry). begins sees_name (spell.ansi_entry e ++ ws)) f.1)
-        (λ x ws f g. ap (λ (e : AnsiEntry). begins sees_name (spell.ansi_entry e ++ ws)) f.1))
-        entry_fits entry_from
+    (λ x ws f g. ap (λ (e : AnsiEntry). begins sees_name (spell.ansi_entry e ++ ws)) f.1)
+    (λ x ws f g. ap (λ (e : AnsiEntry). begins sees_name (spell.ansi_entry e ++ ws)) f.1))
+    entry_fits entry_from
 
 abbrev make_empty : Unit {0} × Unit {0} → Ports
 make_empty z = ports.Empty
@@ -313,7 +313,7 @@ empty_ports_rule : Rule read.empty_ports spell.header_ports AreEmpty anything
 unfolding read.empty_ports
 empty_ports_rule =
     refit_rule (variant_rule (pair_rule (skip_rule 40) (skip_rule 41) (λ y ws f g. refl)) make_empty spell.header_ports (λ a. refl))
-        (λ x f. subst AreEmpty (sym f.1) tt) empty_from
+    (λ x f. subst AreEmpty (sym f.1) tt) empty_from
 
 -- ports with names
 names_from : (x : Ports) → AreNames x → (z : Unit {0} × (List Name × Unit {0})) × (x ≡ make_names z) × (Unit {0} × (fit.AreSome fit.IsFitName z.1.0 × Unit {0}))
@@ -325,8 +325,8 @@ named_ports_rule : Rule read.named_ports spell.header_ports AreNames anything
 unfolding read.named_ports
 named_ports_rule =
     refit_rule (variant_rule (pair_rule (skip_rule 40) (pair_rule (separated_rule name_rule (λ x f. omega arith) (λ ws. refl)) (skip_rule 41) (λ y ws f g. refl)) (λ y ws f g. refl))
-        make_names spell.header_ports (λ a. refl))
-        (λ x f. subst AreNames (sym f.1) f.2.1.0) names_from
+    make_names spell.header_ports (λ a. refl))
+    (λ x f. subst AreNames (sym f.1) f.2.1.0) names_from
 
 -- ports with directions
 ansi_from : (x : Ports) → AreAnsi x
@@ -339,13 +339,13 @@ ansi_ports_rule : Rule read.ansi_ports spell.header_ports AreAnsi anything
 unfolding read.ansi_ports
 ansi_ports_rule =
     refit_rule (variant_rule (pair_rule (skip_rule 40)
-        (pair_rule ansi_port_rule
-        (pair_rule (commas_rule ansi_entry_rule (λ ws. refl)) (skip_rule 41)
-            (λ y ws f g. refl))
-            (λ y ws f g. refl))
-            (λ y ws f g. refl))
-        make_ansi spell.header_ports (λ a. refl))
-        (λ x f. subst AreAnsi (sym f.1) (f.2.1.0, f.2.1.1.0)) ansi_from
+    (pair_rule ansi_port_rule
+    (pair_rule (commas_rule ansi_entry_rule (λ ws. refl)) (skip_rule 41)
+    (λ y ws f g. refl))
+    (λ y ws f g. refl))
+    (λ y ws f g. refl))
+    make_ansi spell.header_ports (λ a. refl))
+    (λ x f. subst AreAnsi (sym f.1) (f.2.1.0, f.2.1.1.0)) ansi_from
 
 -- ports with names are seen by a name behind the `(`
 names_seen : (x : Ports) (ws : List Written) → AreNames x → begins sees_name_second (spell.header_ports x ++ ws) ≡ true
@@ -392,9 +392,9 @@ ports_within_rule : Rule read.ports_within spell.header_ports AreWithin anything
 unfolding read.ports_within
 ports_within_rule =
     refit_rule (choice_rule (sees_mark_second 41) empty_ports_rule
-        (choice_rule sees_name_second named_ports_rule ansi_ports_rule (λ x ws f g. names_seen x ws f) (λ x ws f g. ansi_seen x ws f))
-        (λ x ws f g. empty_seen x ws f) (λ x ws f g. entries_seen x ws f))
-        within_fits within_from
+    (choice_rule sees_name_second named_ports_rule ansi_ports_rule (λ x ws f g. names_seen x ws f) (λ x ws f g. ansi_seen x ws f))
+    (λ x ws f g. empty_seen x ws f) (λ x ws f g. entries_seen x ws f))
+    within_fits within_from
 
 -- nothing
 pure_rule : {A : Type 0} (x : A) (written : A → List Written) → written x ≡ [] → Rule (pure x) written (λ y. y ≡ x) anything
@@ -437,10 +437,10 @@ pub header_ports_rule : Rule read.header_ports spell.header_ports fit.IsFitPorts
 unfolding read.header_ports
 header_ports_rule =
     refit_rule (choice_rule (sees_mark 40) ports_within_rule
-        (follow_rule {may_follow' = no_paren} (pure_rule ports.Absent spell.header_ports refl) (λ ws h. refl))
-        (λ x ws f g. within_seen x ws f)
-        (λ x ws f g. ap (λ (p : Ports). begins (sees_mark 40) (spell.header_ports p ++ ws)) f ∙ not-true (is_mark 40 (first_form ws)) g))
-        header_fits header_from
+    (follow_rule {may_follow' = no_paren} (pure_rule ports.Absent spell.header_ports refl) (λ ws h. refl))
+    (λ x ws f g. within_seen x ws f)
+    (λ x ws f g. ap (λ (p : Ports). begins (sees_mark 40) (spell.header_ports p ++ ws)) f ∙ not-true (is_mark 40 (first_form ws)) g))
+    header_fits header_from
 
 -- ---- modules
 
@@ -468,32 +468,28 @@ pub module_rule : Rule read.module_at spell.module_spelling fit.IsFitModule anyt
 unfolding read.module_at
 module_rule =
     refit_rule (map_rule (pair_rule opening_rule
-        (pair_rule name_rule
-        (pair_rule header_ports_rule
-        (pair_rule (skip_rule 59)
-        (pair_rule (many_rule ends_module module_item_rule (λ x f. item_some x) (λ x ws f. item_begins x ws)) (skip_word_rule (codes "endmodule"))
-            (λ y ws f g. refl))
-            (λ y ws f g. refl))
-            (λ y ws f g. refl))
-            (λ y ws f g. refl))
-            (λ y ws f g. refl))
-        read.module_of module_parts (λ b. refl) (λ a. refl))
-        (λ x f. record { name = f.1.0; ports = f.1.1.0; items = f.1.1.1.1.0 })
-        (λ x f. (tt, (f.name, (f.ports, (tt, (f.items, tt))))))
+    (pair_rule name_rule
+    (pair_rule header_ports_rule
+    (pair_rule (skip_rule 59)
+    (pair_rule (many_rule ends_module module_item_rule (λ x f. item_some x) (λ x ws f. item_begins x ws)) (skip_word_rule (codes "endmodule"))
+    (λ y ws f g. refl))
+    (λ y ws f g. refl))
+    (λ y ws f g. refl))
+    (λ y ws f g. refl))
+    (λ y ws f g. refl))
+    read.module_of module_parts (λ b. refl) (λ a. refl))
+    (λ x f. record { name = f.1.0; ports = f.1.1.0; items = f.1.1.1.1.0 })
+    (λ x f. (tt, (f.name, (f.ports, (tt, (f.items, tt))))))
 
 -- ---- files
 
--- a file without primitives is made of its modules
-file_from : (f : File) → fit.IsFitFile f → (z : List Module × Unit {0}) × (f ≡ read.file_of z) × (fit.AreFit fit.IsFitModule z.0 × Unit {0})
-file_from f h = ((f.modules, tt), ap (λ us. record { modules = f.modules; udps = us }) h.udps, (h.modules, tt))
-
 -- modules up to the end of the text
-pub file_rule : Rule read.file spell.spelling fit.IsFitFile anything
-unfolding read.file
-file_rule =
-    refit_rule (variant_rule (pair_rule (many_rule is_finish module_rule (λ x f. omega arith) (λ x ws f. refl)) finish_rule (λ y ws f g. refl))
-        read.file_of spell.spelling (λ a. refl))
-        (λ x f. subst fit.IsFitFile (sym f.1) (record { modules = f.2.0; udps = refl })) file_from
+pub modules_rule : Rule read.modules spell.modules_spelling (fit.AreFit fit.IsFitModule) anything
+unfolding read.modules
+modules_rule =
+    refit_rule (map_rule (pair_rule (many_rule is_finish module_rule (λ x f. omega arith) (λ x ws f. refl)) finish_rule (λ y ws f g. refl))
+    (λ (z : List Module × Unit {0}). z.0) (λ (ms : List Module). (ms, tt)) (λ b. refl) (λ a. refl))
+    (λ x f. f.0) (λ x f. (f, tt))
 
 -- the end of the text is the last token, and no other is
 abbrev pub AreEnded : List Token → Type 0
@@ -530,17 +526,18 @@ ends_there text number (token ∷ other ∷ tokens) [] j ended t = absurd (ended
 ends_there text number (token ∷ other ∷ tokens) (w ∷ ws) j ended t = ends_there text (number + 1) (other ∷ tokens) ws j ended.1 t.1
 
 -- what is read is written with these tokens
-pub file_found : (text : List ℕ) (tokens : List Token) (f : File) (j : Input) → IsSource (whole text tokens) → AreEnded tokens → read.file (whole text tokens) ≡ Ok (f, j)
-    → AreWritten text 0 tokens (spell.spelling f) × fit.IsFitFile f
-file_found text tokens f j source ended e =
-    let t = file_rule.takes (whole text tokens) j f source e in
-    let end = ends_there text 0 tokens (one_by_one spell.module_spelling f.modules) j ended t.0 in
-    (takes_written text 0 tokens (spell.spelling f) j end t.0, t.1)
+pub modules_found : (text : List ℕ) (tokens : List Token) (ms : List Module) (j : Input) → IsSource (whole text tokens) → AreEnded tokens → read.modules (whole text tokens) ≡ Ok (ms, j)
+    → AreWritten text 0 tokens (spell.modules_spelling ms) × fit.AreFit fit.IsFitModule ms
+modules_found text tokens ms j source ended e =
+    let t = modules_rule.takes (whole text tokens) j ms source e in
+    let end = ends_there text 0 tokens (one_by_one spell.module_spelling ms) j ended t.0 in
+    (takes_written text 0 tokens (spell.modules_spelling ms) j end t.0, t.1)
 
 -- what is written with these tokens is read
-pub file_only : (text : List ℕ) (tokens : List Token) (f : File) → AreWritten text 0 tokens (spell.spelling f) → fit.IsFitFile f → (j : Input) × (read.file (whole text tokens) ≡ Ok (f, j))
-file_only text tokens f h fits =
-    let t = written_takes text 0 tokens (spell.spelling f) h in
-    let t' = subst (λ (ws : List Written). Takes (whole text tokens) ws t.0) (sym (append-nil (spell.spelling f))) t.2 in
-    let r = file_rule.again (whole text tokens) t.0 f [] t' t.1 fits refl in
+pub modules_only : (text : List ℕ) (tokens : List Token) (ms : List Module) → AreWritten text 0 tokens (spell.modules_spelling ms) → fit.AreFit fit.IsFitModule ms
+    → (j : Input) × (read.modules (whole text tokens) ≡ Ok (ms, j))
+modules_only text tokens ms h fits =
+    let t = written_takes text 0 tokens (spell.modules_spelling ms) h in
+    let t' = subst (λ (ws : List Written). Takes (whole text tokens) ws t.0) (sym (append-nil (spell.modules_spelling ms))) t.2 in
+    let r = modules_rule.again (whole text tokens) t.0 ms [] t' t.1 fits refl in
     (r.0, r.1)

@@ -14,7 +14,6 @@ use Rattle.v_tree.specs.declared.modules.Ports.TheVariants as ports
 use Rattle.v_tree.specs.declared.modules.Item.{Item}
 use Rattle.v_tree.specs.declared.modules.Item.TheVariants as item
 use Rattle.v_tree.specs.declared.modules.Module.{Module}
-use Rattle.v_tree.specs.declared.modules.File.{File}
 use Rattle.v_tree.specs.Written.{Form}
 use Rattle.v_parser.specs.Input.{Reader, ◌<$>◌, ◌&◌, pure, token, skip, skip_word, finish, name, is_mark, is_name, is_word, is_finish, optional, choice, commas, separated, many}
 use Rattle.v_parser.specs.Expressions.{sees_mark, sees_name, range}
@@ -100,9 +99,6 @@ module_of z = record { place = z.0.1; word = z.0.0; name = z.1.0; ports = z.1.1.
 unfoldable pub module_at : Reader Module
 module_at = module_of <$> (token opening_in & name & header_ports & skip 59 & many ends_module module_item & skip_word (codes "endmodule"))
 
-abbrev pub file_of : List Module × Unit {0} → File
-file_of z = record { modules = z.0; udps = [] }
-
 -- modules up to the end of the text
-unfoldable pub file : Reader File
-file = file_of <$> (many is_finish module_at & finish)
+unfoldable pub modules : Reader (List Module)
+modules = (λ z. z.0) <$> (many is_finish module_at & finish)

@@ -17,7 +17,7 @@ use crate::words::{
     sees_switch, sees_tran,
 };
 use sqlite_items::Items;
-use v_tree::{AnsiEntry, AnsiPort, File, Item, Module, Ports};
+use v_tree::{AnsiEntry, AnsiPort, Item, Module, ModuleList, Ports};
 
 /// A pull gate, or an instance.
 #[tactic(auto, unfolding(crate::specs::Modules::pulls, crate::specs::Input::choice))]
@@ -276,14 +276,11 @@ impl Repeated for Module {
 }
 
 /// Modules up to the end of the text.
-#[tactic(auto, unfolding(crate::specs::Modules::file))]
-pub fn file(cursor: &mut Cursor<'_>) -> Result<File, ParseFault>
-    ensures { Reads (spec.file cursor.old) result cursor.new }
+#[tactic(auto, unfolding(crate::specs::Modules::modules))]
+pub fn modules(cursor: &mut Cursor<'_>) -> Result<ModuleList, ParseFault>
+    ensures { Reads (spec.modules cursor.old) result cursor.new }
 {
     let modules = many(cursor)?;
     cursor.finish()?;
-    Ok(File {
-        modules,
-        udps: Items::new(cursor.alloc()),
-    })
+    Ok(modules)
 }

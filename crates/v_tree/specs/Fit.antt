@@ -41,7 +41,6 @@ use Rattle.v_tree.specs.declared.modules.Ports.TheVariants as ports
 use Rattle.v_tree.specs.declared.modules.Item.{Item}
 use Rattle.v_tree.specs.declared.modules.Item.TheVariants as item
 use Rattle.v_tree.specs.declared.modules.Module.{Module}
-use Rattle.v_tree.specs.declared.modules.File.{File}
 use Rattle.v_tree.specs.Written.{Form, Name as NameForm, Word, Number, Based, Mark, Symbol, End, Other}
 
 abbrev pub IsVisible : ℕ → Type 0
@@ -239,8 +238,3 @@ pub record IsFitModule (m : Module) : Type 0 where
   pub name : IsFitName m.name
   pub ports : IsFitPorts m.ports
   pub items : AreFit IsFitItem m.items
-
--- a file that keeps all of it: its primitives are none, as long as the grammar here has none
-pub record IsFitFile (f : File) : Type 0 where
-  pub modules : AreFit IsFitModule f.modules
-  pub udps : f.udps ≡ []

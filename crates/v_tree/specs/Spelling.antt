@@ -250,6 +250,10 @@ abbrev pub module_spelling : Module → List Written
 module_spelling m = placed_word m.place (opening_word m.word)
     ∷ (name m.name ++ (header_ports m.ports ++ mark 59 ∷ (one_by_one module_item m.items ++ word (codes "endmodule") ∷ [])))
 
--- the modules of a file, and the end of the text
+-- modules, and the end of the text
+abbrev pub modules_spelling : List Module → List Written
+modules_spelling modules = one_by_one module_spelling modules ++ bare form.End ∷ []
+
+-- a file: its modules, as long as the grammar here has no primitives
 abbrev pub spelling : File → List Written
-spelling f = one_by_one module_spelling f.modules ++ bare form.End ∷ []
+spelling f = modules_spelling f.modules

@@ -1,3 +1,5 @@
+ghost use Rattle.v_tree.specs.Fit.{AreFit, IsFitModule};
+
 use crate::declarations::{AssignItem, Direction, NetDecl, NetType, PortDecl, TriregDecl};
 use crate::expressions::Range;
 use crate::gates::{GateItem, Instance};
@@ -69,9 +71,12 @@ pub struct Module {
 /// Modules in their order.
 pub type ModuleList = Items<Module>;
 
-/// A netlist text: its modules, and its user-defined primitives.
+/// A netlist text: its modules, and its user-defined primitives. Each name is one or more bytes from
+/// `!` to `~`, each number without base is below 2^31, each literal has from 1 to 128 bits,
+/// concatenations stand at most 64 deep, and each list has fewer than 2^32 entries.
 #[derive(Drop)]
 pub struct File {
     pub modules: ModuleList,
     pub udps: UdpDeclList,
+    ghost kept: { ∥ AreFit IsFitModule modules ∥₁ },
 }
