@@ -1,3 +1,5 @@
+mod forms;
+
 use super::*;
 use outside_io::{Bytes, CallList, MemoryShelf, MemorySink, NamedFile, NamedFileList, StreamSink};
 use std::process::Abort;

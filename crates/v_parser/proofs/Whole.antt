@@ -14,7 +14,7 @@ use Rattle.v_parser.specs.declared.fault.ParseFault.{ParseFault}
 use Rattle.v_parser.specs.declared.fault.ParseFault.TheVariants.{Unsupported, Syntax, Memory}
 use Rattle.v_parser.specs.Input.{Input, Outcome, Reads}
 use Rattle.v_parser.specs.Modules.{modules}
-use Rattle.v_parser.specs.Reading.{whole, modules_of, Gives, GivesModules, IsUnlessMemory}
+use Rattle.v_parser.specs.Reading.{whole, modules_of, GivesModules, IsSameFile}
 use Rattle.v_parser.proofs.Source.{source_of, ended_of}
 use Rattle.v_parser.proofs.ModuleRules.{modules_found, modules_only}
 
@@ -35,13 +35,12 @@ pub fit_of : (text : List ℕ) (tokens : List Token) (answer : Result (List Modu
 fit_of text tokens (Ok ms) small are gives = (written_of text tokens ms gives.0 small are gives.1).1
 fit_of text tokens (Err e) small are gives = tt
 
--- what is answered is written with the tokens
-pub found_of : (text : List ℕ) (tokens : List Token) (answer : Result File ParseFault) → length text ≤ 67108864 → AreTokensOf text tokens → Gives (modules_of text tokens) answer
-    → IfOk answer (λ file. IsTreeOf text tokens file)
-found_of text tokens (Ok f) small are gives =
+-- a file of the modules that are read is the tree
+pub tree_of : (text : List ℕ) (tokens : List Token) (f : File) → length text ≤ 67108864 → AreTokensOf text tokens → GivesModules (modules_of text tokens) (Ok f.modules) → f.udps ≡ []
+    → IsTreeOf text tokens f
+tree_of text tokens f small are gives none =
     let all = written_of text tokens f.modules gives.0 small are gives.1 in
-    record { written = all.0; fit = record { modules = all.1; udps = gives.2 } }
-found_of text tokens (Err e) small are gives = tt
+    record { written = all.0; fit = record { modules = all.1; udps = none } }
 
 -- the modules of an outcome, or others
 abbrev modules_in : List Module → Outcome (List Module) → List Module
@@ -54,18 +53,22 @@ same_modules ms ns r s outcome one other = ap (modules_in ms) (sym one ∙ other
 no_refusal : (ms : List Module) (rest : Input) (outcome : Outcome (List Module)) (e : ParseFault) → outcome ≡ Ok (ms, rest) → outcome ≡ Err e → ⊥
 no_refusal ms rest outcome e ok err = cc
 
--- what is written with the tokens is answered
-pub only_of : (text : List ℕ) (tokens : List Token) (answer : Result File ParseFault) → Gives (modules_of text tokens) answer → (file : File) → IsTreeOf text tokens file → IsUnlessMemory file answer
-only_of text tokens answer gives file tree = by answer gives
-  where
-    there : (j : Input) × (modules_of text tokens ≡ Ok (file.modules, j))
-    there = modules_only text tokens file.modules tree.written tree.fit.modules
+-- what is written with the tokens is read
+there : (text : List ℕ) (tokens : List Token) (tree : File) → IsTreeOf text tokens tree → (rest : Input) × (modules_of text tokens ≡ Ok (tree.modules, rest))
+there text tokens tree is = modules_only text tokens tree.modules is.written is.fit.modules
 
-    by : (answer : Result File ParseFault) → Gives (modules_of text tokens) answer → IsUnlessMemory file answer
-    by (Ok f) gives = record {
-      modules = same_modules f.modules file.modules gives.0 there.0 (modules_of text tokens) gives.1 there.1;
-      udps = gives.2 ∙ sym tree.fit.udps;
-    }
-    by (Err Memory) gives = refl
-    by (Err (Syntax n)) gives = absurd (no_refusal file.modules there.0 (modules_of text tokens) (Syntax n) there.1 (gives (λ e. cc)))
-    by (Err (Unsupported n)) gives = absurd (no_refusal file.modules there.0 (modules_of text tokens) (Unsupported n) there.1 (gives (λ e. cc)))
+-- a file of the modules that are read is each tree
+pub same_of : (text : List ℕ) (tokens : List Token) (f : File) → GivesModules (modules_of text tokens) (Ok f.modules) → f.udps ≡ [] → (tree : File) → IsTreeOf text tokens tree → IsSameFile f tree
+same_of text tokens f gives none tree is =
+    let read = there text tokens tree is in
+    record { modules = same_modules f.modules tree.modules gives.0 read.0 (modules_of text tokens) gives.1 read.1; udps = none ∙ sym is.fit.udps }
+
+-- where there is a tree, nothing but want of memory is answered instead
+pub memory_of : (text : List ℕ) (tokens : List Token) (e : ParseFault) → GivesModules (modules_of text tokens) (Err e) → (tree : File) → IsTreeOf text tokens tree → e ≡ Memory
+memory_of text tokens Memory gives tree is = refl
+memory_of text tokens (Syntax n) gives tree is =
+    let read = there text tokens tree is in
+    absurd (no_refusal tree.modules read.0 (modules_of text tokens) (Syntax n) read.1 (gives (λ e. cc)))
+memory_of text tokens (Unsupported n) gives tree is =
+    let read = there text tokens tree is in
+    absurd (no_refusal tree.modules read.0 (modules_of text tokens) (Unsupported n) read.1 (gives (λ e. cc)))
