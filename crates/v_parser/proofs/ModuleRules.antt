@@ -31,12 +31,11 @@ use Rattle.v_tree.specs.declared.modules.Ports.TheVariants as ports
 use Rattle.v_tree.specs.declared.modules.Item.{Item}
 use Rattle.v_tree.specs.declared.modules.Item.TheVariants as item
 use Rattle.v_tree.specs.declared.modules.Module.{Module}
-use Rattle.v_tree.specs.declared.modules.File.{File}
 use Rattle.v_tree.specs.Written.{form_of, form_by, based_form, slice_of, Written, bare, AreWritten, between_commas, one_by_one}
 use Rattle.v_tree.specs.Written as form
 use Rattle.v_tree.specs.Fit as fit
 use Rattle.v_tree.specs.Spelling as spell
-use Rattle.v_parser.specs.Input.{Input, Reader, front, next, pure, is_mark, is_finish, choice, name, ◌<$>◌}
+use Rattle.v_parser.specs.Input.{Input, Reader, front, next, pure, is_mark, is_finish, choice, ◌<$>◌}
 use Rattle.v_parser.specs.Expressions.{sees_mark, sees_name}
 use Rattle.v_parser.specs.Words.{sees_net_type}
 use Rattle.v_parser.specs.Gates.{instance}

@@ -1,22 +1,22 @@
 -- What the tokens of a text keep, for those who read them.
-use Rattle.std.proofs.Common.{◌≡◌, ◌≢◌, ℕ, zero, suc, ◌+◌, ◌-◌, ◌<◌, ◌≤◌, ◌^◌, Bool, true, false, List, [], ◌∷◌, ◌++◌, length, take, drop, Option, Some, None, refl, sym, ap, subst, ◌∙◌, ◌⊎◌, arith, inl, inr, length-append, ltb-true}
-use Rattle.std.specs.Prelude.{slice_range, nat_lt}
-use Rattle.std.specs.List.{All, AllByRecursion}
+use Rattle.std.proofs.Common.{◌≡◌, ◌≢◌, ℕ, ◌+◌, ◌<◌, ◌≤◌, Bool, false, List, [], ◌∷◌, length, drop, Option, Some, None, refl, sym, subst, ◌⊎◌, arith, inl, inr, length-append, ltb-true}
+use Rattle.std.specs.Prelude.{nat_lt}
+use Rattle.std.specs.List.{AllByRecursion}
 use Rattle.v_lexer.specs.declared.token.Token.{Token}
 use Rattle.v_lexer.specs.declared.token.TokenKind.{TokenKind}
 use Rattle.v_lexer.specs.declared.token.TokenKind.TheVariants as kind
 use Rattle.v_lexer.specs.declared.token.Piece.{Piece}
-use Rattle.v_lexer.specs.Sound.{bytes_of, IsVisible, HasBits, IsSound, AreSound}
+use Rattle.v_lexer.specs.Sound.{IsVisible, HasBits, IsSound, AreSound}
 use Rattle.std.proofs.lemmas.Bool.{cases_Bool}
 use Rattle.std.proofs.lemmas.List.Elements.{recursion_from_All}
 use Rattle.v_lexer.specs.Places.{table_after}
-use Rattle.v_lexer.specs.Reading.{AreTokensOf, Reads, Stands, line_of}
-use Rattle.v_lexer.specs.Tokens.{given, end_at}
+use Rattle.v_lexer.specs.Reading.{AreTokensOf, Reads, line_of}
+use Rattle.v_lexer.specs.Tokens.{given}
 use Rattle.v_lexer.specs.Values.{name_text, literal_of}
 use Rattle.v_lexer.specs.Numbers.{decimal_value}
 use Rattle.v_lexer.proofs.Sound.{are_sound}
-use Rattle.v_tree.specs.Written.{Form, slice_of, form_of, form_by, number_form, based_form}
-use Rattle.v_tree.specs.Fit.{IsSoundForm, IsNameText, IsLiteral}
+use Rattle.v_tree.specs.Written.{slice_of, form_of, form_by, number_form, based_form}
+use Rattle.v_tree.specs.Fit.{IsSoundForm, IsNameText}
 use Rattle.v_parser.proofs.Rules.{IsSource}
 use Rattle.v_parser.proofs.ModuleRules.{AreEnded}
 use Rattle.v_parser.specs.Reading.{whole}

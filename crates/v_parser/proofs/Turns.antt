@@ -1,7 +1,7 @@
 -- One turn of a loop that reads parts.
-use Rattle.std.proofs.Common.{◌≡◌, ℕ, suc, ◌+◌, ◌-◌, ◌<◌, Bool, true, false, if◌then◌else◌, List, [], ◌∷◌, ◌++◌, Ok, refl, sym, ap, subst, ◌∙◌, arith}
+use Rattle.std.proofs.Common.{◌≡◌, ℕ, suc, ◌+◌, ◌-◌, ◌<◌, Bool, true, false, List, [], ◌∷◌, ◌++◌, Ok, refl, sym, ap, ◌∙◌, arith}
 use Rattle.v_tree.specs.Written.{Form}
-use Rattle.v_parser.specs.Input.{Input, Outcome, Reader, and_then, ◌>>=◌, front, next, is_mark, passed_comma, commas_from, many_from}
+use Rattle.v_parser.specs.Input.{Input, Outcome, Reader, front, next, is_mark, passed_comma, commas_from, many_from}
 
 -- a turn is left, so one is taken
 left_over : (n k : ℕ) → k < n → n - k ≡ suc (n - (k + 1))

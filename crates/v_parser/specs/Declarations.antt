@@ -1,5 +1,5 @@
 -- Declarations and assignments.
-use Rattle.std.specs.Prelude.{ℕ, Bool, ◌||◌, List, Option, codes}
+use Rattle.std.specs.Prelude.{Bool, ◌||◌, List, Option, codes}
 use Rattle.v_tree.specs.declared.places.Place.{Place}
 use Rattle.v_tree.specs.declared.places.Name.{Name}
 use Rattle.v_tree.specs.declared.expressions.Range.{Range}

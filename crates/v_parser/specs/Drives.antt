@@ -1,5 +1,5 @@
 -- Drives, charges and delays.
-use Rattle.std.specs.Prelude.{ℕ, Bool, true, false, ◌&&◌, List, Option, Some, None}
+use Rattle.std.specs.Prelude.{ℕ, Bool, ◌&&◌, Option, Some, None}
 use Rattle.v_tree.specs.declared.places.Place.{Place}
 use Rattle.v_tree.specs.declared.drives.Level.{Level}
 use Rattle.v_tree.specs.declared.drives.Drive.{Drive}

@@ -1,6 +1,5 @@
 -- Ranges, selects, expressions and targets.
-use Rattle.std.specs.Prelude.{ℕ, zero, suc, Bool, true, false, if◌then◌else◌, List, Option, Some, None, ◌∷◌, []}
-use Rattle.v_lexer.specs.declared.values.Literal.{Literal}
+use Rattle.std.specs.Prelude.{ℕ, zero, suc, Bool, List, Option}
 use Rattle.v_tree.specs.declared.places.Place.{Place}
 use Rattle.v_tree.specs.declared.places.Name.{Name}
 use Rattle.v_tree.specs.declared.expressions.Range.{Range}
@@ -11,7 +10,6 @@ use Rattle.v_tree.specs.declared.expressions.Expr.TheVariants as expr
 use Rattle.v_tree.specs.declared.expressions.Target.{Target}
 use Rattle.v_tree.specs.declared.expressions.Target.TheVariants as target
 use Rattle.v_tree.specs.Written.{Form}
-use Rattle.v_tree.specs.Written as form
 use Rattle.v_parser.specs.Input.{Reader, ◌<$>◌, ◌&◌, mark, skip, name, number, placed_number, placed_based, is_mark, is_name, is_number, optional, choice, separated}
 
 -- the first of two tokens is the mark

@@ -1,5 +1,5 @@
 -- Gates, switches and instances.
-use Rattle.std.specs.Prelude.{ℕ, Bool, ◌||◌, List, Option}
+use Rattle.std.specs.Prelude.{Bool, ◌||◌, List, Option}
 use Rattle.v_tree.specs.declared.places.Place.{Place}
 use Rattle.v_tree.specs.declared.places.Name.{Name}
 use Rattle.v_tree.specs.declared.expressions.Expr.{Expr}

@@ -1,5 +1,5 @@
 -- What the names, numbers, literals, lists and concatenations of a tree keep.
-use Rattle.std.specs.Prelude.{◌≡◌, ℕ, zero, suc, ◌<◌, ◌≤◌, ◌^◌, List, [], length, Option, Some, None}
+use Rattle.std.specs.Prelude.{ℕ, zero, suc, ◌<◌, ◌≤◌, ◌^◌, List, length, Option, Some, None}
 use Rattle.std.specs.List.{AllByRecursion}
 use Rattle.v_lexer.specs.declared.values.Literal.{Literal}
 use Rattle.v_tree.specs.declared.places.Name.{Name}

@@ -1,6 +1,5 @@
 -- The tokens with which each part of a tree is written. A token is bare where the tree doesn't keep its place.
-use Rattle.std.specs.Prelude.{ℕ, List, [], ◌∷◌, ◌++◌, codes, Option, Some, None}
-use Rattle.v_lexer.specs.declared.values.Literal.{Literal}
+use Rattle.std.specs.Prelude.{ℕ, List, [], ◌∷◌, ◌++◌, codes}
 use Rattle.v_tree.specs.declared.places.Place.{Place}
 use Rattle.v_tree.specs.declared.places.Name.{Name}
 use Rattle.v_tree.specs.declared.expressions.Range.{Range}

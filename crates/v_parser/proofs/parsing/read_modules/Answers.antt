@@ -1,4 +1,4 @@
-use Rattle.std.proofs.Common.{arith, length, ◌≡◌, ◌+◌, ◌≤◌}
+use Rattle.std.proofs.Common.{arith, length, ◌+◌, ◌≤◌}
 use Rattle.v_parser.specs.Reading.{modules_of, GivesModules}
 use Rattle.v_parser.proofs.Source.{tokens_few}
 use Rattle.v_parser.proofs.Whole.{gives_of, fit_of}
