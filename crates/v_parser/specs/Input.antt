@@ -126,6 +126,10 @@ token_by (Some x) = λ i. Ok ((x, place i), next i)
 abbrev pub token : {A : Type 0} → (Form → Option A) → Reader (A × Place)
 token pick = λ i. token_by (pick (front i)) i
 
+-- the place of the next token, which isn't taken
+abbrev pub here : Reader Place
+here = λ i. Ok (place i, i)
+
 -- ---- tokens
 
 abbrev pub name_in : Form → Option (List ℕ)
@@ -179,6 +183,15 @@ abbrev pub is_word : List ℕ → Form → Bool
 is_word word (form.Word w) = bytes_eq w word
 is_word word _ = false
 
+-- a symbol of a table
+abbrev pub is_symbol : ℕ → Form → Bool
+is_symbol byte (form.Symbol b) = b == byte
+is_symbol byte _ = false
+
+abbrev pub symbol_in : Form → Option ℕ
+symbol_in (form.Symbol b) = Some b
+symbol_in _ = None
+
 abbrev pub word_in : Form → Option (List ℕ)
 word_in (form.Word w) = Some w
 word_in _ = None
@@ -193,6 +206,10 @@ mark byte = (λ p. p.1) <$> token (λ f. where_true (is_mark byte f))
 -- a mark
 unfoldable pub skip : ℕ → Reader (Unit {0})
 skip byte = (λ p. p.0) <$> token (λ f. where_true (is_mark byte f))
+
+-- a symbol of a table
+unfoldable pub skip_symbol : ℕ → Reader (Unit {0})
+skip_symbol byte = (λ p. p.0) <$> token (λ f. where_true (is_symbol byte f))
 
 -- a word, with its place
 unfoldable pub word : List ℕ → Reader Place
@@ -238,9 +255,17 @@ unfoldable pub many_from : {A : Type 0} → (Form → Bool) → Reader A → ℕ
 many_from stops p zero found = pure found
 many_from stops p (suc n) found = λ i. if stops (front i) then Ok (found, i) else (p >>= λ x. many_from stops p n (found ++ x ∷ [])) i
 
+-- parts up to a token that ends them, put behind those that were found
+unfoldable pub many_after : {A : Type 0} → (Form → Bool) → Reader A → List A → Reader (List A)
+many_after stops p found = λ i. many_from stops p (length i.tokens) found i
+
 -- parts up to a token that ends them
 unfoldable pub many : {A : Type 0} → (Form → Bool) → Reader A → Reader (List A)
-many stops p = λ i. many_from stops p (length i.tokens) [] i
+many stops p = many_after stops p []
+
+-- one part or several, up to a token that ends them
+unfoldable pub some : {A : Type 0} → (Form → Bool) → Reader A → Reader (List A)
+some stops p = p >>= λ x. many_after stops p (x ∷ [])
 
 -- ---- what a function that reads ensures
 

@@ -6,4 +6,6 @@ pub mod Drives
 pub mod Declarations
 pub mod Gates
 pub mod Modules
+pub mod Primitives
+pub mod Descriptions
 pub mod Reading

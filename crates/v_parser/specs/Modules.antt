@@ -15,7 +15,7 @@ use Rattle.v_tree.specs.declared.modules.Item.{Item}
 use Rattle.v_tree.specs.declared.modules.Item.TheVariants as item
 use Rattle.v_tree.specs.declared.modules.Module.{Module}
 use Rattle.v_tree.specs.Written.{Form}
-use Rattle.v_parser.specs.Input.{Reader, ◌<$>◌, ◌&◌, pure, token, skip, skip_word, finish, name, is_mark, is_name, is_word, is_finish, optional, choice, commas, separated, many}
+use Rattle.v_parser.specs.Input.{Reader, ◌<$>◌, ◌&◌, pure, token, skip, skip_word, name, is_mark, is_name, is_word, optional, choice, commas, separated, many}
 use Rattle.v_parser.specs.Expressions.{sees_mark, sees_name, range}
 use Rattle.v_parser.specs.Words.{direction_in, sees_direction, sees_net_type, opening_in, sees_logic, sees_switch, sees_tran, sees_pull}
 use Rattle.v_parser.specs.Declarations.{net_type, port_decl, net_decl, trireg_decl, assign_item}
@@ -98,7 +98,3 @@ module_of z = record { place = z.0.1; word = z.0.0; name = z.1.0; ports = z.1.1.
 -- `module Name [ ports ] ; { item } endmodule`
 unfoldable pub module_at : Reader Module
 module_at = module_of <$> (token opening_in & name & header_ports & skip 59 & many ends_module module_item & skip_word (codes "endmodule"))
-
--- modules up to the end of the text
-unfoldable pub modules : Reader (List Module)
-modules = (λ z. z.0) <$> (many is_finish module_at & finish)

@@ -1,29 +1,44 @@
 -- What `parse` answers.
-use Rattle.std.specs.Prelude.{◌≡◌, ◌≢◌, ℕ, List, [], Result, Ok, Err}
+use Rattle.std.specs.Prelude.{◌≡◌, ◌≢◌, ℕ, List, Result, Ok, Err}
 use Rattle.v_lexer.specs.declared.token.Token.{Token}
 use Rattle.v_tree.specs.declared.modules.Module.{Module}
+use Rattle.v_tree.specs.declared.modules.Description.{Description}
 use Rattle.v_tree.specs.declared.modules.File.{File}
+use Rattle.v_tree.specs.declared.primitives.UdpDecl.{UdpDecl}
+use Rattle.v_tree.specs.Tree.{modules_among, udps_among}
 use Rattle.v_parser.specs.declared.fault.ParseFault.{ParseFault}
 use Rattle.v_parser.specs.declared.fault.ParseFault.TheVariants.{Memory}
 use Rattle.v_parser.specs.Input.{Input, Outcome}
-use Rattle.v_parser.specs.Modules.{modules}
+use Rattle.v_parser.specs.Descriptions.{descriptions}
 
 -- all tokens of a text
 abbrev pub whole : List ℕ → List Token → Input
 whole text tokens = record { text = text; tokens = tokens; number = 0 }
 
--- the modules that are read, or why a token is refused
-abbrev pub modules_of : List ℕ → List Token → Outcome (List Module)
-modules_of text tokens = modules (whole text tokens)
+-- the descriptions that are read, or why a token is refused
+abbrev pub descriptions_of : List ℕ → List Token → Outcome (List Description)
+descriptions_of text tokens = descriptions (whole text tokens)
 
--- the modules that were returned are the outcome: want of memory says nothing of it
-abbrev pub GivesModules : Outcome (List Module) → Result (List Module) ParseFault → Type 0
-GivesModules outcome (Ok found) = (rest : Input) × (outcome ≡ Ok (found, rest))
-GivesModules outcome (Err e) = e ≢ Memory → outcome ≡ Err e
+-- an outcome has descriptions whose modules and whose primitives, in their order, are these
+pub record Sorts (outcome : Outcome (List Description)) (modules : List Module) (udps : List UdpDecl) (rest : Input) : Type 0 where
+  pub found : List Description
+  pub read : outcome ≡ Ok (found, rest)
+  pub modules_are : modules_among found ≡ modules
+  pub udps_are : udps_among found ≡ udps
 
--- the file that was returned has the modules of the outcome, and no primitives
-abbrev pub Gives : Outcome (List Module) → Result File ParseFault → Type 0
-Gives outcome (Ok found) = (rest : Input) × (outcome ≡ Ok (found.modules, rest)) × (found.udps ≡ [])
+-- the two lists that were returned are those of the outcome, and the rest is left: want of memory says nothing of it
+abbrev pub ReadsSorted : Outcome (List Description) → Result (List Module × List UdpDecl) ParseFault → Input → Type 0
+ReadsSorted outcome (Ok lists) new = Sorts outcome lists.0 lists.1 new
+ReadsSorted outcome (Err e) new = e ≢ Memory → outcome ≡ Err e
+
+-- the two lists that were returned are those of the outcome
+abbrev pub GivesLists : Outcome (List Description) → Result (List Module × List UdpDecl) ParseFault → Type 0
+GivesLists outcome (Ok lists) = (rest : Input) × Sorts outcome lists.0 lists.1 rest
+GivesLists outcome (Err e) = e ≢ Memory → outcome ≡ Err e
+
+-- the file that was returned has the modules and the primitives of the outcome
+abbrev pub Gives : Outcome (List Description) → Result File ParseFault → Type 0
+Gives outcome (Ok found) = (rest : Input) × Sorts outcome found.modules found.udps rest
 Gives outcome (Err e) = e ≢ Memory → outcome ≡ Err e
 
 -- two files have the same modules and primitives

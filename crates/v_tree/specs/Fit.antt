@@ -41,6 +41,19 @@ use Rattle.v_tree.specs.declared.modules.Ports.TheVariants as ports
 use Rattle.v_tree.specs.declared.modules.Item.{Item}
 use Rattle.v_tree.specs.declared.modules.Item.TheVariants as item
 use Rattle.v_tree.specs.declared.modules.Module.{Module}
+use Rattle.v_tree.specs.declared.modules.Description.{Description}
+use Rattle.v_tree.specs.declared.modules.Description.TheVariants as described
+use Rattle.v_tree.specs.declared.primitives.Lit.{Lit}
+use Rattle.v_tree.specs.declared.primitives.Lit.TheVariants as literal
+use Rattle.v_tree.specs.declared.primitives.UdpInput.{UdpInput}
+use Rattle.v_tree.specs.declared.primitives.UdpPorts.{UdpPorts}
+use Rattle.v_tree.specs.declared.primitives.UdpPorts.TheVariants as udp_ports
+use Rattle.v_tree.specs.declared.primitives.UdpItem.{UdpItem}
+use Rattle.v_tree.specs.declared.primitives.UdpItem.TheVariants as udp_item
+use Rattle.v_tree.specs.declared.primitives.UdpInitial.{UdpInitial}
+use Rattle.v_tree.specs.declared.primitives.PlacedRow.{PlacedRow}
+use Rattle.v_tree.specs.declared.primitives.UdpDecl.{UdpDecl}
+use Rattle.udp_table.specs.declared.rows.UdpRow.{UdpRow}
 use Rattle.v_tree.specs.Written.{Form, Name as NameForm, Word, Number, Based, Mark, Symbol, End, Other}
 
 abbrev pub IsVisible : ℕ → Type 0
@@ -238,3 +251,55 @@ pub record IsFitModule (m : Module) : Type 0 where
   pub name : IsFitName m.name
   pub ports : IsFitPorts m.ports
   pub items : AreFit IsFitItem m.items
+
+-- ---- primitives
+
+abbrev pub IsFitLit : Lit → Type 0
+IsFitLit (literal.Number place n) = IsNumber n
+IsFitLit (literal.Based place based) = IsLiteral based
+
+abbrev pub IsFitUdpInput : UdpInput → Type 0
+IsFitUdpInput i = IsFitName i.name
+
+-- an output in a header, with its start value and the inputs behind it
+pub record IsFitUdpHead (n : Name) (start : Option Lit) (others : List UdpInput) : Type 0 where
+  pub output : IsFitName n
+  pub value : IsFitIfThere IsFitLit start
+  pub inputs : AreFit IsFitUdpInput others
+
+abbrev pub IsFitUdpPorts : UdpPorts → Type 0
+IsFitUdpPorts (udp_ports.Names names) = AreSome IsFitName names
+IsFitUdpPorts (udp_ports.Declared is_reg output value inputs) = IsFitUdpHead output value inputs
+
+abbrev pub IsFitUdpItem : UdpItem → Type 0
+IsFitUdpItem (udp_item.Output place is_reg output value) = IsFitName output × IsFitIfThere IsFitLit value
+IsFitUdpItem (udp_item.Input place names) = AreSome IsFitName names
+IsFitUdpItem (udp_item.Reg place n) = IsFitName n
+
+abbrev pub IsFitUdpInitial : UdpInitial → Type 0
+IsFitUdpInitial i = IsFitName i.name × IsFitLit i.value
+
+-- a row has one input or several; which symbols may stand where is judged later
+abbrev pub IsFitRow : UdpRow → Type 0
+IsFitRow r = AreSome IsFree r.ins
+
+abbrev pub IsFitPlacedRow : PlacedRow → Type 0
+IsFitPlacedRow r = IsFitRow r.row
+
+pub record IsFitUdp (u : UdpDecl) : Type 0 where
+  pub name : IsFitName u.name
+  pub ports : IsFitUdpPorts u.ports
+  pub items : AreFit IsFitUdpItem u.items
+  pub initial : IsFitIfThere IsFitUdpInitial u.initial
+  pub rows : AreFit IsFitPlacedRow u.rows
+
+-- ---- texts
+
+abbrev pub IsFitDescription : Description → Type 0
+IsFitDescription (described.Module m) = IsFitModule m
+IsFitDescription (described.Udp u) = IsFitUdp u
+
+-- the lists of a file keep what they have to
+pub record AreFitLists (ms : List Module) (us : List UdpDecl) : Type 0 where
+  pub modules : AreFit IsFitModule ms
+  pub udps : AreFit IsFitUdp us

@@ -1,5 +1,5 @@
 -- The tokens with which each part of a tree is written. A token is bare where the tree doesn't keep its place.
-use Rattle.std.specs.Prelude.{ℕ, List, [], ◌∷◌, ◌++◌, codes}
+use Rattle.std.specs.Prelude.{ℕ, Bool, true, false, List, [], ◌∷◌, ◌++◌, codes, Option, Some, None}
 use Rattle.v_tree.specs.declared.places.Place.{Place}
 use Rattle.v_tree.specs.declared.places.Name.{Name}
 use Rattle.v_tree.specs.declared.expressions.Range.{Range}
@@ -48,10 +48,24 @@ use Rattle.v_tree.specs.declared.modules.Ports.TheVariants as ports
 use Rattle.v_tree.specs.declared.modules.Item.{Item}
 use Rattle.v_tree.specs.declared.modules.Item.TheVariants as item
 use Rattle.v_tree.specs.declared.modules.Module.{Module}
-use Rattle.v_tree.specs.declared.modules.File.{File}
+use Rattle.v_tree.specs.declared.modules.Description.{Description}
+use Rattle.v_tree.specs.declared.modules.Description.TheVariants as described
+use Rattle.v_tree.specs.declared.primitives.Lit.{Lit}
+use Rattle.v_tree.specs.declared.primitives.Lit.TheVariants as literal
+use Rattle.v_tree.specs.declared.primitives.UdpInput.{UdpInput}
+use Rattle.v_tree.specs.declared.primitives.UdpPorts.{UdpPorts}
+use Rattle.v_tree.specs.declared.primitives.UdpPorts.TheVariants as udp_ports
+use Rattle.v_tree.specs.declared.primitives.UdpItem.{UdpItem}
+use Rattle.v_tree.specs.declared.primitives.UdpItem.TheVariants as udp_item
+use Rattle.v_tree.specs.declared.primitives.UdpInitial.{UdpInitial}
+use Rattle.v_tree.specs.declared.primitives.PlacedRow.{PlacedRow}
+use Rattle.v_tree.specs.declared.primitives.UdpDecl.{UdpDecl}
+use Rattle.udp_table.specs.declared.symbols.Sym.{Sym}
+use Rattle.udp_table.specs.declared.symbols.Sym.TheVariants as sym
+use Rattle.udp_table.specs.declared.rows.UdpRow.{UdpRow}
 use Rattle.v_tree.specs.Written as form
-use Rattle.v_tree.specs.Written.{Written, at, bare, written_if_there, behind_commas, between_commas, one_by_one}
-use Rattle.v_tree.specs.Words.{direction_word, net_type_word, spread_word, charge_word, logic_word, switch_word, tran_word, pull_word, opening_word, level_word}
+use Rattle.v_tree.specs.Written.{Written, at, bare, placed_first, written_if_there, behind_commas, between_commas, one_by_one}
+use Rattle.v_tree.specs.Words.{direction_word, net_type_word, spread_word, charge_word, logic_word, switch_word, tran_word, pull_word, opening_word, level_word, base_symbol, sym_symbol}
 
 -- a mark, and a word
 abbrev pub mark : ℕ → Written
@@ -249,10 +263,73 @@ abbrev pub module_spelling : Module → List Written
 module_spelling m = placed_word m.place (opening_word m.word)
     ∷ (name m.name ++ (header_ports m.ports ++ mark 59 ∷ (one_by_one module_item m.items ++ word (codes "endmodule") ∷ [])))
 
--- modules, and the end of the text
-abbrev pub modules_spelling : List Module → List Written
-modules_spelling modules = one_by_one module_spelling modules ++ bare form.End ∷ []
+-- ---- primitives
 
--- a file: its modules, as long as the grammar here has no primitives
-abbrev pub spelling : File → List Written
-spelling f = modules_spelling f.modules
+-- a word, where it is there
+abbrev pub word_if_there : List ℕ → Bool → List Written
+word_if_there bytes true = word bytes ∷ []
+word_if_there bytes false = []
+
+abbrev pub symbol : ℕ → Written
+symbol byte = bare (form.Symbol byte)
+
+abbrev pub lit : Lit → List Written
+lit (literal.Number place n) = at place (form.Number n) ∷ []
+lit (literal.Based place based) = at place (form.Based based) ∷ []
+
+-- `= lit`
+abbrev pub start : Lit → List Written
+start value = mark 61 ∷ lit value
+
+-- `[ input ] Name`
+abbrev pub udp_input : UdpInput → List Written
+udp_input i = word_if_there (codes "input") i.has_word ++ name i.name
+
+-- the ports in parentheses
+abbrev pub udp_header : UdpPorts → List Written
+udp_header (udp_ports.Names names) = mark 40 ∷ (between_commas name names ++ mark 41 ∷ [])
+udp_header (udp_ports.Declared is_reg output value inputs) =
+    mark 40 ∷ word (codes "output") ∷ (word_if_there (codes "reg") is_reg ++ (name output ++ (written_if_there start value ++ (behind_commas udp_input inputs ++ mark 41 ∷ []))))
+
+-- a declaration
+abbrev pub udp_decl : UdpItem → List Written
+udp_decl (udp_item.Output place is_reg output value) =
+    placed_word place (codes "output") ∷ (word_if_there (codes "reg") is_reg ++ (name output ++ (written_if_there start value ++ mark 59 ∷ [])))
+udp_decl (udp_item.Input place names) = placed_word place (codes "input") ∷ (between_commas name names ++ mark 59 ∷ [])
+udp_decl (udp_item.Reg place n) = placed_word place (codes "reg") ∷ (name n ++ mark 59 ∷ [])
+
+-- `initial Name = lit ;`
+abbrev pub udp_initial : UdpInitial → List Written
+udp_initial i = placed_word i.place (codes "initial") ∷ (name i.name ++ mark 61 ∷ (lit i.value ++ mark 59 ∷ []))
+
+-- a symbol, or two values in parentheses
+abbrev pub field : Sym → List Written
+field (sym.Edge from to) = symbol 40 ∷ symbol (base_symbol from) ∷ symbol (base_symbol to) ∷ symbol 41 ∷ []
+field s = symbol (sym_symbol s) ∷ []
+
+-- `[ field : ] field`: the present state, where it is there, and the output
+abbrev pub outcome : Option Sym → Sym → List Written
+outcome None out = field out
+outcome (Some state) out = field state ++ symbol 58 ∷ field out
+
+-- `field .. : [ field : ] field ;`
+abbrev pub row : UdpRow → List Written
+row r = one_by_one field r.ins ++ symbol 58 ∷ (outcome r.state r.out ++ symbol 59 ∷ [])
+
+abbrev pub placed_row : PlacedRow → List Written
+placed_row r = placed_first r.place (row r.row)
+
+-- `primitive Name ( ports ) ; { declaration } [ initial ] table { row } endtable endprimitive`
+abbrev pub udp : UdpDecl → List Written
+udp u = placed_word u.place (codes "primitive")
+    ∷ (name u.name ++ (udp_header u.ports ++ mark 59 ∷ (one_by_one udp_decl u.items ++ (written_if_there udp_initial u.initial ++ word (codes "table") ∷ (one_by_one placed_row u.rows ++ word (codes "endtable") ∷ word (codes "endprimitive") ∷ [])))))
+
+-- ---- texts
+
+abbrev pub description : Description → List Written
+description (described.Module m) = module_spelling m
+description (described.Udp u) = udp u
+
+-- descriptions, and the end of the text
+abbrev pub spelling : List Description → List Written
+spelling descriptions = one_by_one description descriptions ++ bare form.End ∷ []

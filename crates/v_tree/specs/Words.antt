@@ -1,4 +1,4 @@
--- The reserved words that stand for a variant.
+-- The reserved words and the symbols that stand for a variant.
 use Rattle.std.specs.Prelude.{ℕ, Bool, true, false, List, codes}
 use Rattle.v_tree.specs.declared.declarations.Direction.{Direction}
 use Rattle.v_tree.specs.declared.declarations.Direction.TheVariants as direction
@@ -21,6 +21,10 @@ use Rattle.v_tree.specs.declared.modules.ModuleWord.TheVariants as opening
 use Rattle.v_tree.specs.declared.drives.Strength.{Strength}
 use Rattle.v_tree.specs.declared.drives.Strength.TheVariants.{Supply, Strong, Pull, Weak, Highz}
 use Rattle.v_tree.specs.declared.drives.Level.{Level}
+use Rattle.udp_table.specs.declared.symbols.Base.{Base}
+use Rattle.udp_table.specs.declared.symbols.Base.TheVariants as base
+use Rattle.udp_table.specs.declared.symbols.Sym.{Sym}
+use Rattle.udp_table.specs.declared.symbols.Sym.TheVariants as sym
 
 abbrev pub direction_word : Direction → List ℕ
 direction_word direction.Input = codes "input"
@@ -101,3 +105,26 @@ strength_word Highz true = codes "highz1"
 
 abbrev pub level_word : Level → List ℕ
 level_word level = strength_word level.strength level.of_one
+
+-- the symbol of a value
+abbrev pub base_symbol : Base → ℕ
+base_symbol base.Zero = 48
+base_symbol base.One = 49
+base_symbol base.X = 120
+base_symbol base.Any = 63
+base_symbol base.Both = 98
+
+-- the first symbol of a field: the only one, unless it is a change from one value to another
+abbrev pub sym_symbol : Sym → ℕ
+sym_symbol sym.Zero = 48
+sym_symbol sym.One = 49
+sym_symbol sym.X = 120
+sym_symbol sym.Any = 63
+sym_symbol sym.Both = 98
+sym_symbol sym.Same = 45
+sym_symbol sym.Rise = 114
+sym_symbol sym.Fall = 102
+sym_symbol sym.Pos = 112
+sym_symbol sym.Neg = 110
+sym_symbol sym.Change = 42
+sym_symbol (sym.Edge from to) = 40

@@ -31,7 +31,11 @@ abbrev pub based_form : Option Literal → Form
 based_form None = Other
 based_form (Some literal) = Based literal
 
--- what a token of a kind says by its bytes
+-- a capital as a small letter, another byte as it is
+abbrev pub lower : ℕ → ℕ
+lower byte = if nat_lt byte 65 then byte else if nat_lt 90 byte then byte else byte + 32
+
+-- what a token of a kind says by its bytes: a symbol means the same in capitals
 abbrev pub form_by : TokenKind → List ℕ → Form
 form_by kind.Name bytes = Name (name_text bytes)
 form_by kind.Word bytes = Word bytes
@@ -41,7 +45,7 @@ form_by kind.Exponent bytes = Other
 form_by kind.Based bytes = based_form (literal_of bytes)
 form_by kind.Text bytes = Other
 form_by kind.Directive bytes = Other
-form_by kind.Symbol bytes = Symbol (first bytes)
+form_by kind.Symbol bytes = Symbol (lower (first bytes))
 form_by kind.Mark bytes = Mark (first bytes)
 form_by kind.End bytes = End
 
@@ -61,6 +65,11 @@ at place form = record { form = form; place = Some place }
 -- a token whose place the tree doesn't keep
 abbrev pub bare : Form → Written
 bare form = record { form = form; place = None }
+
+-- what is written, where the place of its first token is kept
+abbrev pub placed_first : Place → List Written → List Written
+placed_first place [] = []
+placed_first place (w ∷ ws) = at place w.form ∷ ws
 
 -- a place is the one that is kept, where one is
 abbrev pub IsKept : Option Place → Place → Type 0

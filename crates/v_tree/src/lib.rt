@@ -23,7 +23,8 @@ pub use gates::{
     LogicGate, OptionalExprList, PullGate, Switch, Terms, TermsList, TranGate,
 };
 pub use modules::{
-    AnsiEntry, AnsiEntryList, AnsiPort, File, Item, ItemList, Module, ModuleList, ModuleWord, Ports,
+    AnsiEntry, AnsiEntryList, AnsiPort, Description, File, Item, ItemList, Module, ModuleList,
+    ModuleWord, Ports,
 };
 pub use places::{Name, Place, PlacedNameList};
 pub use primitives::{

@@ -1,10 +1,10 @@
-ghost use Rattle.v_tree.specs.Fit.{AreFit, IsFitModule};
+ghost use Rattle.v_tree.specs.Fit.{AreFitLists};
 
 use crate::declarations::{AssignItem, Direction, NetDecl, NetType, PortDecl, TriregDecl};
 use crate::expressions::Range;
 use crate::gates::{GateItem, Instance};
 use crate::places::{Name, Place, PlacedNameList};
-use crate::primitives::UdpDeclList;
+use crate::primitives::{UdpDecl, UdpDeclList};
 use sqlite_items::Items;
 
 /// The word that begins a module.
@@ -71,6 +71,13 @@ pub struct Module {
 /// Modules in their order.
 pub type ModuleList = Items<Module>;
 
+/// A description of a netlist text: a module or a user-defined primitive (IEEE 1364-2005, A.1.2).
+#[derive(Drop)]
+pub enum Description {
+    Module(Module),
+    Udp(UdpDecl),
+}
+
 /// A netlist text: its modules, and its user-defined primitives. Each name is one or more bytes from
 /// `!` to `~`, each number without base is below 2^31, each literal has from 1 to 128 bits,
 /// concatenations stand at most 64 deep, and each list has fewer than 2^32 entries.
@@ -78,5 +85,5 @@ pub type ModuleList = Items<Module>;
 pub struct File {
     pub modules: ModuleList,
     pub udps: UdpDeclList,
-    ghost kept: { ∥ AreFit IsFitModule modules ∥₁ },
+    ghost kept: { ∥ AreFitLists modules udps ∥₁ },
 }
