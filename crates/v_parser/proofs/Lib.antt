@@ -1,5 +1,6 @@
 pub mod WordLists
 pub mod Turns
+pub mod Sorting
 pub mod Nested
 pub mod Rules
 pub mod TokenRules
@@ -9,5 +10,8 @@ pub mod DeclarationRules
 pub mod GateRules
 pub mod ItemKinds
 pub mod ModuleRules
+pub mod RowRules
+pub mod UdpRules
+pub mod DescriptionRules
 pub mod Source
 pub mod Whole

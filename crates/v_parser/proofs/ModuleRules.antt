@@ -1,4 +1,4 @@
--- Rules of modules and files, and what they say of a whole list of tokens.
+-- Rules of modules.
 use Rattle.std.proofs.Common.{◌≡◌, ◌≢◌, ℕ, suc, ◌+◌, ◌<◌, ◌≤◌, Bool, true, false, not, if◌then◌else◌, List, [], ◌∷◌, ◌++◌, length, Option, Some, None, Ok, codes, ◌⊎◌, inl, inr, refl, sym, ap, subst, ◌∙◌, arith, append-nil, length-append}
 use Rattle.std.specs.Prelude.{nat_lt}
 use Rattle.std.proofs.lemmas.Bool.{not-true, cases_lt}
@@ -479,64 +479,3 @@ module_rule =
     read.module_of module_parts (λ b. refl) (λ a. refl))
     (λ x f. record { name = f.1.0; ports = f.1.1.0; items = f.1.1.1.1.0 })
     (λ x f. (tt, (f.name, (f.ports, (tt, (f.items, tt))))))
-
--- ---- files
-
--- modules up to the end of the text
-pub modules_rule : Rule read.modules spell.modules_spelling (fit.AreFit fit.IsFitModule) anything
-unfolding read.modules
-modules_rule =
-    refit_rule (map_rule (pair_rule (many_rule is_finish module_rule (λ x f. omega arith) (λ x ws f. refl)) finish_rule (λ y ws f g. refl))
-    (λ (z : List Module × Unit {0}). z.0) (λ (ms : List Module). (ms, tt)) (λ b. refl) (λ a. refl))
-    (λ x f. f.0) (λ x f. (f, tt))
-
--- the end of the text is the last token, and no other is
-abbrev pub AreEnded : List Token → Type 0
-AreEnded [] = ⊥
-AreEnded (token ∷ []) = token.kind ≡ End
-AreEnded (token ∷ next ∷ tokens) = (token.kind ≢ End) × AreEnded (next ∷ tokens)
-
--- a number isn't the end of the text
-number_not_end : (b : Bool) (value : ℕ) → (if b then form.Number value else form.Other) ≡ form.End → ⊥
-number_not_end true value e = cc
-number_not_end false value e = cc
-
--- a based number isn't the end of the text
-based_not_end : (o : Option Literal) → based_form o ≡ form.End → ⊥
-based_not_end None e = cc
-based_not_end (Some literal) e = cc
-
--- what says that the text ends is the end of the text
-end_is : (k : TokenKind) (bytes : List ℕ) → form_by k bytes ≡ form.End → k ≡ End
-end_is kind.End bytes e = refl
-end_is kind.Number bytes e = absurd (number_not_end (nat_lt (decimal_value bytes) 2147483648) (decimal_value bytes) e)
-end_is kind.Based bytes e = absurd (based_not_end (literal_of bytes) e)
-end_is k bytes e = absurd cc
-
--- nothing is left after what is written up to the end of the text
-ends_there : (text : List ℕ) (number : ℕ) (tokens : List Token) (ws : List Written) (j : Input) → AreEnded tokens
-    → Takes (record { text = text; tokens = tokens; number = number }) (ws ++ bare form.End ∷ []) j → IsEnd j
-unfolding front next form_of
-ends_there text number [] ws j ended t = absurd ended
-ends_there text number (token ∷ []) [] j ended t = ap (λ (k : Input). k.tokens) (sym t.1)
-ends_there text number (token ∷ []) (w ∷ ws) j ended t =
-    absurd (omega (arith, takes_length (ws ++ bare form.End ∷ []) (record { text = text; tokens = []; number = number + 1 }) j t.1, length-append ws (bare form.End ∷ [])))
-ends_there text number (token ∷ other ∷ tokens) [] j ended t = absurd (ended.0 (end_is token.kind (slice_of text token) t.0.form))
-ends_there text number (token ∷ other ∷ tokens) (w ∷ ws) j ended t = ends_there text (number + 1) (other ∷ tokens) ws j ended.1 t.1
-
--- what is read is written with these tokens
-pub modules_found : (text : List ℕ) (tokens : List Token) (ms : List Module) (j : Input) → IsSource (whole text tokens) → AreEnded tokens → read.modules (whole text tokens) ≡ Ok (ms, j)
-    → AreWritten text 0 tokens (spell.modules_spelling ms) × fit.AreFit fit.IsFitModule ms
-modules_found text tokens ms j source ended e =
-    let t = modules_rule.takes (whole text tokens) j ms source e in
-    let end = ends_there text 0 tokens (one_by_one spell.module_spelling ms) j ended t.0 in
-    (takes_written text 0 tokens (spell.modules_spelling ms) j end t.0, t.1)
-
--- what is written with these tokens is read
-pub modules_only : (text : List ℕ) (tokens : List Token) (ms : List Module) → AreWritten text 0 tokens (spell.modules_spelling ms) → fit.AreFit fit.IsFitModule ms
-    → (j : Input) × (read.modules (whole text tokens) ≡ Ok (ms, j))
-modules_only text tokens ms h fits =
-    let t = written_takes text 0 tokens (spell.modules_spelling ms) h in
-    let t' = subst (λ (ws : List Written). Takes (whole text tokens) ws t.0) (sym (append-nil (spell.modules_spelling ms))) t.2 in
-    let r = modules_rule.again (whole text tokens) t.0 ms [] t' t.1 fits refl in
-    (r.0, r.1)

@@ -4,10 +4,10 @@ use Rattle.std.specs.List.{AllByRecursion}
 use Rattle.std.proofs.lemmas.Bool.{and_parts, not-true, eqb-true}
 use Rattle.v_lexer.specs.declared.token.Token.{Token}
 use Rattle.v_tree.specs.declared.places.Place.{Place}
-use Rattle.v_tree.specs.Written.{Form, form_of, Written, at, bare, IsKept, AreWritten, written_if_there, behind_commas, between_commas, one_by_one}
+use Rattle.v_tree.specs.Written.{Form, form_of, Written, at, bare, placed_first, IsKept, AreWritten, written_if_there, behind_commas, between_commas, one_by_one}
 use Rattle.v_tree.specs.Written as form
 use Rattle.v_tree.specs.Fit.{IsSoundForm, AreFit, AreSome, IsFitIfThere}
-use Rattle.v_parser.specs.Input.{Input, Outcome, Reader, front_in, front, place, next_in, next, and_then, ◌>>=◌, pure, ◌<$>◌, ◌&◌, token_by, token, is_mark, optional, choice, commas_from, commas, separated, many_from, many}
+use Rattle.v_parser.specs.Input.{Input, Outcome, Reader, front_in, front, place, next_in, next, and_then, ◌>>=◌, pure, ◌<$>◌, ◌&◌, token_by, token, is_mark, optional, choice, commas_from, commas, separated, many_from, many_after, many, some, here}
 
 -- the next token is what is written
 pub record StandsAt (i : Input) (w : Written) : Type 0 where
@@ -242,6 +242,16 @@ refit_rule rule there back = record {
       let t = rule.takes i j x source e in
       (t.0, there x t.1);
   again = λ i j x ws t end fit follows. rule.again i j x ws t end (back x fit) follows;
+}
+
+-- the same tokens in other words
+pub respell_rule : {A : Type 0} {p : Reader A} {written written' : A → List Written} {IsFit : A → Type 0} {may_follow : Follow} → Rule p written IsFit may_follow
+    → ((x : A) → IsFit x → written x ≡ written' x) → Rule p written' IsFit may_follow
+respell_rule {A} {p} {written} {written'} {IsFit} {may_follow} rule same = record {
+  takes = λ i j x source e.
+      let t = rule.takes i j x source e in
+      (subst (λ (ws : List Written). Takes i ws j) (same x t.1) t.0, t.1);
+  again = λ i j x ws t end fit follows. rule.again i j x ws (subst (λ (vs : List Written). Takes i (vs ++ ws) j) (sym (same x fit)) t) end fit follows;
 }
 
 -- less may follow
@@ -521,7 +531,7 @@ many_length written IsFit some (x ∷ xs) fit = omega (arith, some x fit.0, many
 pub many_rule : {A : Type 0} {p : Reader A} {written : A → List Written} {IsFit : A → Type 0} (stops : Form → Bool) → Rule p written IsFit anything
     → ((x : A) → IsFit x → 0 < length (written x)) → ((x : A) (ws : List Written) → IsFit x → stops (first_form (written x ++ ws)) ≡ false)
     → Rule (many stops p) (one_by_one written) (AreFit IsFit) (λ ws. stops (first_form ws))
-unfolding many
+unfolding many many_after
 many_rule {A} {p} {written} {IsFit} stops rule some begun = record {
   takes = λ i j xs source e.
       let r = many_found stops rule (length i.tokens) [] i j xs source e in
@@ -530,6 +540,67 @@ many_rule {A} {p} {written} {IsFit} stops rule some begun = record {
   again = λ i j xs ws t end fit follows.
       let le : length xs ≤ length i.tokens = omega (arith, takes_length (one_by_one written xs ++ ws) i j t, length-append (one_by_one written xs) ws, many_length written IsFit some xs fit.each) in
       many_again stops rule begun (length i.tokens) [] xs i j ws le t end fit.each follows;
+}
+
+-- one part or several, up to a token that ends them
+pub some_rule : {A : Type 0} {p : Reader A} {written : A → List Written} {IsFit : A → Type 0} (stops : Form → Bool) → Rule p written IsFit anything
+    → ((x : A) → IsFit x → 0 < length (written x)) → ((x : A) (ws : List Written) → IsFit x → stops (first_form (written x ++ ws)) ≡ false)
+    → Rule (some stops p) (one_by_one written) (AreSome IsFit) (λ ws. stops (first_form ws))
+unfolding some many_after
+some_rule {A} {p} {written} {IsFit} stops rule there begun = record {
+  takes = λ i j xs source e.
+      let a = bind_ok (p i) (λ x. many_after stops p (x ∷ [])) (xs, j) e in
+      let t = rule.takes i a.0.1 a.0.0 source a.1 in
+      let r = many_found stops rule (length a.0.1.tokens) (a.0.0 ∷ []) a.0.1 j xs (takes_source (written a.0.0) i a.0.1 source t.0) a.2 in
+      let all : AllByRecursion IsFit (a.0.0 ∷ r.0) = (t.1, r.3) in
+      let taken : Takes i (one_by_one written (a.0.0 ∷ r.0)) j = takes_join (written a.0.0) (one_by_one written r.0) i a.0.1 j t.0 r.2 in
+      let few : length (a.0.0 ∷ r.0) < 2 ^ 32 = omega (arith, source.few, takes_length (one_by_one written (a.0.0 ∷ r.0)) i j taken, many_length written IsFit there (a.0.0 ∷ r.0) all) in
+      subst (λ (ys : List A). Takes i (one_by_one written ys) j × AreSome IsFit ys) (sym r.1) (taken, record { some = omega arith; fit = record { few = few; each = all } });
+  again = λ i j xs ws t end fit follows. reread i j xs ws t end fit.some fit.fit.each follows;
+}
+  where
+    reread : (i j : Input) (xs : List A) (ws : List Written) → Takes i (one_by_one written xs ++ ws) j → IsEnd j → 0 < length xs → AllByRecursion IsFit xs → stops (first_form ws) ≡ true
+        → (m : Input) × (some stops p i ≡ Ok (xs, m)) × Takes m ws j
+    reread i j [] ws t end here fit follows = absurd (omega arith)
+    reread i j (x ∷ xs) ws t end here fit follows =
+        let t' = subst (λ (vs : List Written). Takes i vs j) (append_assoc (written x) (one_by_one written xs) ws) t in
+        let r = rule.again i j x (one_by_one written xs ++ ws) t' end fit.0 refl in
+        let le : length xs ≤ length r.0.tokens = omega (arith, takes_length (one_by_one written xs ++ ws) r.0 j r.2, length-append (one_by_one written xs) ws, many_length written IsFit there xs fit.1) in
+        let s = many_again stops rule begun (length r.0.tokens) (x ∷ []) xs r.0 j ws le r.2 end fit.1 follows in
+        (s.0, bind_step (p i) (λ y. many_after stops p (y ∷ [])) (x, r.0) r.1 ∙ s.1, s.2)
+
+-- ---- the place of the first token
+
+-- something is written, and the place of its first token isn't kept
+abbrev pub IsOpen : List Written → Type 0
+IsOpen [] = ⊥
+IsOpen (w ∷ ws) = w.place ≡ None
+
+-- what is taken is also taken with the place where it begins
+placed_takes : (ws : List Written) (i j : Input) (p : Place) → IsOpen ws → p ≡ place i → Takes i ws j → Takes i (placed_first p ws) j
+placed_takes [] i j p unkept is t = absurd unkept
+placed_takes (w ∷ ws) i j p unkept is t = (record { some = t.0.some; form = t.0.form; kept = is }, t.1)
+
+-- what is taken with the place where it begins is also taken without it
+unplaced_takes : (vs ws : List Written) (i j : Input) (p : Place) → IsOpen vs → Takes i (placed_first p vs ++ ws) j → (p ≡ place i) × Takes i (vs ++ ws) j
+unplaced_takes [] ws i j p unkept t = absurd unkept
+unplaced_takes (w ∷ vs) ws i j p unkept t =
+    (t.0.kept, (record { some = t.0.some; form = t.0.form; kept = subst (λ (o : Option Place). IsKept o (place i)) (sym unkept) tt }, t.1))
+
+-- a part with the place of its first token
+pub here_rule : {A : Type 0} {p : Reader A} {written : A → List Written} {IsFit : A → Type 0} {may_follow : Follow} → Rule p written IsFit may_follow → ((x : A) → IsFit x → IsOpen (written x))
+    → Rule (here & p) (λ (z : Place × A). placed_first z.0 (written z.1)) (λ (z : Place × A). IsFit z.1) may_follow
+here_rule {A} {p} {written} {IsFit} {may_follow} rule unkept = record {
+  takes = λ i j z source e.
+      let a = bind_ok (p i) (λ y. pure (place i, y)) (z, j) e in
+      let made : (Place × A) × Input = ((place i, a.0.0), a.0.1) in
+      let t = rule.takes i a.0.1 a.0.0 source a.1 in
+      subst (λ (y : (Place × A) × Input). Takes i (placed_first y.0.0 (written y.0.1)) y.1 × IsFit y.0.1) (ok_is made (z, j) a.2)
+      (placed_takes (written a.0.0) i a.0.1 (place i) (unkept a.0.0 t.1) refl t.0, t.1);
+  again = λ i j z ws t end fit follows.
+      let u = unplaced_takes (written z.1) ws i j z.0 (unkept z.1 fit) t in
+      let r = rule.again i j z.1 ws u.1 end fit follows in
+      (r.0, bind_step (p i) (λ y. pure (place i, y)) (z.1, r.0) r.1 ∙ ap (λ (at : Place). ok_of ((at, z.1), r.0)) (sym u.0), r.2);
 }
 
 -- ---- the whole list

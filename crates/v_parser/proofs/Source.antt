@@ -18,7 +18,7 @@ use Rattle.v_lexer.proofs.Sound.{are_sound}
 use Rattle.v_tree.specs.Written.{slice_of, form_of, form_by, number_form, based_form}
 use Rattle.v_tree.specs.Fit.{IsSoundForm, IsNameText}
 use Rattle.v_parser.proofs.Rules.{IsSource}
-use Rattle.v_parser.proofs.ModuleRules.{AreEnded}
+use Rattle.v_parser.proofs.DescriptionRules.{AreEnded}
 use Rattle.v_parser.specs.Reading.{whole}
 
 given_one : (at line : ℕ) (kind : Option TokenKind) (len : ℕ) → length (given at line kind len) ≤ 1

@@ -33,7 +33,7 @@ use Rattle.v_tree.specs.Written as form
 use Rattle.v_tree.specs.Fit as fit
 use Rattle.v_tree.specs.Words as words
 use Rattle.v_tree.specs.Spelling as spell
-use Rattle.v_parser.specs.Input.{token, is_mark, is_word, is_finish, word_in, where_true, name_in, number_in, based_in, ◌<$>◌}
+use Rattle.v_parser.specs.Input.{token, is_mark, is_symbol, is_word, is_finish, word_in, where_true, name_in, number_in, based_in, ◌<$>◌}
 use Rattle.v_parser.specs.Input as input
 use Rattle.v_parser.specs.Words.{named, chosen, level_with}
 use Rattle.v_parser.specs.Words as stands
@@ -153,6 +153,20 @@ mark_rule byte = tested_rule (is_mark byte) (form.Mark byte) refl (mark_is byte)
 pub skip_rule : (byte : ℕ) → Rule (input.skip byte) (λ u. spell.mark byte ∷ []) fit.IsFree anything
 unfolding input.skip
 skip_rule byte = skipped_rule (is_mark byte) (form.Mark byte) refl (mark_is byte) (mark_back byte)
+
+-- a symbol that is seen is the symbol
+pub symbol_is : (byte : ℕ) (f : Form) → is_symbol byte f ≡ true → f ≡ form.Symbol byte
+symbol_is byte (form.Symbol b) e = ap form.Symbol (eqb-true b byte e)
+symbol_is byte f e = absurd cc
+
+-- a symbol is seen as itself
+symbol_back : (byte : ℕ) → where_true (is_symbol byte (form.Symbol byte)) ≡ Some tt
+symbol_back byte = ap where_true (eq-eqb byte byte refl)
+
+-- a symbol of a table
+pub skip_symbol_rule : (byte : ℕ) → Rule (input.skip_symbol byte) (λ u. spell.symbol byte ∷ []) fit.IsFree anything
+unfolding input.skip_symbol
+skip_symbol_rule byte = skipped_rule (is_symbol byte) (form.Symbol byte) refl (symbol_is byte) (symbol_back byte)
 
 -- a word, with its place
 pub word_rule : (bytes : List ℕ) → Rule (input.word bytes) (λ place. spell.placed_word place bytes ∷ []) fit.IsFree anything

@@ -4,7 +4,7 @@ use Rattle.v_tree.specs.Written.{Form}
 use Rattle.v_parser.specs.Input.{Input, Outcome, Reader, front, next, is_mark, passed_comma, commas_from, many_from}
 
 -- a turn is left, so one is taken
-left_over : (n k : ℕ) → k < n → n - k ≡ suc (n - (k + 1))
+pub left_over : (n k : ℕ) → k < n → n - k ≡ suc (n - (k + 1))
 left_over n k below = omega arith
 
 commas_more : {A : Type 0} (p : Reader A) (m : ℕ) (found : List A) (i j : Input) (x : A) → is_mark 44 (front i) ≡ true → p (next i) ≡ Ok (x, j)

@@ -1,74 +1,107 @@
 -- What is read of all tokens of a text is its tree.
-use Rattle.std.proofs.Common.{◌≡◌, ℕ, ◌≤◌, List, [], length, Result, Ok, Err, refl, sym, ap, ◌∙◌}
+use Rattle.std.proofs.Common.{◌≡◌, ℕ, ◌≤◌, ◌<◌, List, [], ◌∷◌, ◌++◌, length, Result, Ok, Err, refl, sym, ap, subst, ◌∙◌, arith}
 use Rattle.std.specs.Prelude.{IfOk}
+use Rattle.std.specs.List.{AllByRecursion}
 use Rattle.v_lexer.specs.declared.token.Token.{Token}
 use Rattle.v_lexer.specs.Reading.{AreTokensOf}
 use Rattle.v_lexer.proofs.Sound.{are_sound}
 use Rattle.v_tree.specs.declared.modules.Module.{Module}
+use Rattle.v_tree.specs.declared.modules.Description.{Description}
+use Rattle.v_tree.specs.declared.modules.Description.TheVariants as described
 use Rattle.v_tree.specs.declared.modules.File.{File}
+use Rattle.v_tree.specs.declared.primitives.UdpDecl.{UdpDecl}
 use Rattle.v_tree.specs.Written.{AreWritten}
-use Rattle.v_tree.specs.Spelling.{modules_spelling}
-use Rattle.v_tree.specs.Fit.{AreFit, IsFitModule}
-use Rattle.v_tree.specs.Tree.{IsTreeOf}
+use Rattle.v_tree.specs.Spelling.{spelling}
+use Rattle.v_tree.specs.Fit.{AreFit, AreFitLists, IsFitModule, IsFitUdp, IsFitDescription}
+use Rattle.v_tree.specs.Tree.{IsTreeOf, modules_among, udps_among}
 use Rattle.v_parser.specs.declared.fault.ParseFault.{ParseFault}
 use Rattle.v_parser.specs.declared.fault.ParseFault.TheVariants.{Unsupported, Syntax, Memory}
-use Rattle.v_parser.specs.Input.{Input, Outcome, Reads}
-use Rattle.v_parser.specs.Modules.{modules}
-use Rattle.v_parser.specs.Reading.{whole, modules_of, GivesModules, IsSameFile}
+use Rattle.v_parser.specs.Input.{Input, Outcome}
+use Rattle.v_parser.specs.Descriptions.{descriptions}
+use Rattle.v_parser.specs.Reading.{whole, descriptions_of, Sorts, ReadsSorted, GivesLists, IsSameFile}
 use Rattle.v_parser.proofs.Source.{source_of, ended_of}
-use Rattle.v_parser.proofs.ModuleRules.{modules_found, modules_only}
+use Rattle.v_parser.proofs.DescriptionRules.{descriptions_found, descriptions_only}
 
--- the modules that are read are written with the tokens
-written_of : (text : List ℕ) (tokens : List Token) (ms : List Module) (rest : Input) → length text ≤ 67108864 → AreTokensOf text tokens → modules_of text tokens ≡ Ok (ms, rest)
-    → AreWritten text 0 tokens (modules_spelling ms) × AreFit IsFitModule ms
-written_of text tokens ms rest small are is = modules_found text tokens ms rest (source_of text tokens small are) (ended_of text tokens (are_sound text tokens are)) is
+-- the descriptions that are read are written with the tokens
+written_of : (text : List ℕ) (tokens : List Token) (ds : List Description) (rest : Input) → length text ≤ 67108864 → AreTokensOf text tokens → descriptions_of text tokens ≡ Ok (ds, rest)
+    → AreWritten text 0 tokens (spelling ds) × AreFit IsFitDescription ds
+written_of text tokens ds rest small are is = descriptions_found text tokens ds rest (source_of text tokens small are) (ended_of text tokens (are_sound text tokens are)) is
 
 -- what reading from an input with all tokens ensures, said of the text
-pub gives_of : (text : List ℕ) (tokens : List Token) (input new : Input) (answer : Result (List Module) ParseFault) → input ≡ whole text tokens → Reads (modules input) answer new
-    → GivesModules (modules_of text tokens) answer
-gives_of text tokens input new (Ok ms) is reads = (new, sym (ap modules is) ∙ reads)
-gives_of text tokens input new (Err e) is reads = λ other. sym (ap modules is) ∙ reads other
+pub gives_of : (text : List ℕ) (tokens : List Token) (input new : Input) (answer : Result (List Module × List UdpDecl) ParseFault) → input ≡ whole text tokens → ReadsSorted (descriptions input) answer new
+    → GivesLists (descriptions_of text tokens) answer
+gives_of text tokens input new (Ok lists) is reads = (new, subst (λ (i : Input). Sorts (descriptions i) lists.0 lists.1 new) is reads)
+gives_of text tokens input new (Err e) is reads = λ other. sym (ap descriptions is) ∙ reads other
 
--- the modules that are answered keep what a file keeps
-pub fit_of : (text : List ℕ) (tokens : List Token) (answer : Result (List Module) ParseFault) → length text ≤ 67108864 → AreTokensOf text tokens → GivesModules (modules_of text tokens) answer
-    → IfOk answer (λ found. AreFit IsFitModule found)
-fit_of text tokens (Ok ms) small are gives = (written_of text tokens ms gives.0 small are gives.1).1
+-- there are no more modules than descriptions, and each keeps what it has to
+modules_fit : (ds : List Description) → AllByRecursion IsFitDescription ds → (length (modules_among ds) ≤ length ds) × AllByRecursion IsFitModule (modules_among ds)
+modules_fit [] f = (omega arith, tt)
+modules_fit (described.Module m ∷ ds) f =
+    let r = modules_fit ds f.1 in
+    (omega (arith, r.0), (f.0, r.1))
+modules_fit (described.Udp u ∷ ds) f =
+    let r = modules_fit ds f.1 in
+    (omega (arith, r.0), r.1)
+
+-- there are no more primitives than descriptions, and each keeps what it has to
+udps_fit : (ds : List Description) → AllByRecursion IsFitDescription ds → (length (udps_among ds) ≤ length ds) × AllByRecursion IsFitUdp (udps_among ds)
+udps_fit [] f = (omega arith, tt)
+udps_fit (described.Module m ∷ ds) f =
+    let r = udps_fit ds f.1 in
+    (omega (arith, r.0), r.1)
+udps_fit (described.Udp u ∷ ds) f =
+    let r = udps_fit ds f.1 in
+    (omega (arith, r.0), (f.0, r.1))
+
+-- the lists of descriptions that keep what they have to do so too
+lists_fit : (ds : List Description) → AreFit IsFitDescription ds → AreFitLists (modules_among ds) (udps_among ds)
+lists_fit ds f =
+    let m = modules_fit ds f.each in
+    let u = udps_fit ds f.each in
+    record { modules = record { few = omega (arith, m.0, f.few); each = m.1 }; udps = record { few = omega (arith, u.0, f.few); each = u.1 } }
+
+-- the lists that are answered keep what a file keeps
+pub fit_of : (text : List ℕ) (tokens : List Token) (answer : Result (List Module × List UdpDecl) ParseFault) → length text ≤ 67108864 → AreTokensOf text tokens → GivesLists (descriptions_of text tokens) answer
+    → IfOk answer (λ lists. AreFitLists lists.0 lists.1)
+fit_of text tokens (Ok lists) small are gives =
+    let fits = lists_fit gives.1.found (written_of text tokens gives.1.found gives.0 small are gives.1.read).1 in
+    subst (λ (ms : List Module). AreFitLists ms lists.1) gives.1.modules_are (subst (λ (us : List UdpDecl). AreFitLists (modules_among gives.1.found) us) gives.1.udps_are fits)
 fit_of text tokens (Err e) small are gives = tt
 
--- a file of the modules that are read is the tree
-pub tree_of : (text : List ℕ) (tokens : List Token) (f : File) → length text ≤ 67108864 → AreTokensOf text tokens → GivesModules (modules_of text tokens) (Ok f.modules) → f.udps ≡ []
-    → IsTreeOf text tokens f
-tree_of text tokens f small are gives none =
-    let all = written_of text tokens f.modules gives.0 small are gives.1 in
-    record { written = all.0; fit = record { modules = all.1; udps = none } }
+-- a file of the lists that are read is the tree
+pub tree_of : (text : List ℕ) (tokens : List Token) (f : File) → length text ≤ 67108864 → AreTokensOf text tokens → GivesLists (descriptions_of text tokens) (Ok (f.modules, f.udps)) → IsTreeOf text tokens f
+tree_of text tokens f small are gives =
+    let all = written_of text tokens gives.1.found gives.0 small are gives.1.read in
+    record { descriptions = gives.1.found; written = all.0; fit = all.1; modules = gives.1.modules_are; udps = gives.1.udps_are }
 
--- the modules of an outcome, or others
-abbrev modules_in : List Module → Outcome (List Module) → List Module
-modules_in others (Ok found) = found.0
-modules_in others (Err e) = others
+-- the descriptions of an outcome, or others
+abbrev descriptions_in : List Description → Outcome (List Description) → List Description
+descriptions_in others (Ok found) = found.0
+descriptions_in others (Err e) = others
 
-same_modules : (ms ns : List Module) (r s : Input) (outcome : Outcome (List Module)) → outcome ≡ Ok (ms, r) → outcome ≡ Ok (ns, s) → ms ≡ ns
-same_modules ms ns r s outcome one other = ap (modules_in ms) (sym one ∙ other)
+same_descriptions : (ds es : List Description) (r s : Input) (outcome : Outcome (List Description)) → outcome ≡ Ok (ds, r) → outcome ≡ Ok (es, s) → ds ≡ es
+same_descriptions ds es r s outcome one other = ap (descriptions_in ds) (sym one ∙ other)
 
-no_refusal : (ms : List Module) (rest : Input) (outcome : Outcome (List Module)) (e : ParseFault) → outcome ≡ Ok (ms, rest) → outcome ≡ Err e → ⊥
-no_refusal ms rest outcome e ok err = cc
+no_refusal : (ds : List Description) (rest : Input) (outcome : Outcome (List Description)) (e : ParseFault) → outcome ≡ Ok (ds, rest) → outcome ≡ Err e → ⊥
+no_refusal ds rest outcome e ok err = cc
 
 -- what is written with the tokens is read
-there : (text : List ℕ) (tokens : List Token) (tree : File) → IsTreeOf text tokens tree → (rest : Input) × (modules_of text tokens ≡ Ok (tree.modules, rest))
-there text tokens tree is = modules_only text tokens tree.modules is.written is.fit.modules
+there : (text : List ℕ) (tokens : List Token) (tree : File) (is : IsTreeOf text tokens tree) → (rest : Input) × (descriptions_of text tokens ≡ Ok (is.descriptions, rest))
+there text tokens tree is = descriptions_only text tokens is.descriptions is.written is.fit
 
--- a file of the modules that are read is each tree
-pub same_of : (text : List ℕ) (tokens : List Token) (f : File) → GivesModules (modules_of text tokens) (Ok f.modules) → f.udps ≡ [] → (tree : File) → IsTreeOf text tokens tree → IsSameFile f tree
-same_of text tokens f gives none tree is =
+-- a file of the lists that are read is each tree
+pub same_of : (text : List ℕ) (tokens : List Token) (f : File) → GivesLists (descriptions_of text tokens) (Ok (f.modules, f.udps)) → (tree : File) → IsTreeOf text tokens tree → IsSameFile f tree
+same_of text tokens f gives tree is =
     let read = there text tokens tree is in
-    record { modules = same_modules f.modules tree.modules gives.0 read.0 (modules_of text tokens) gives.1 read.1; udps = none ∙ sym is.fit.udps }
+    let same : gives.1.found ≡ is.descriptions = same_descriptions gives.1.found is.descriptions gives.0 read.0 (descriptions_of text tokens) gives.1.read read.1 in
+    record { modules = sym gives.1.modules_are ∙ ap modules_among same ∙ is.modules; udps = sym gives.1.udps_are ∙ ap udps_among same ∙ is.udps }
 
 -- where there is a tree, nothing but want of memory is answered instead
-pub memory_of : (text : List ℕ) (tokens : List Token) (e : ParseFault) → GivesModules (modules_of text tokens) (Err e) → (tree : File) → IsTreeOf text tokens tree → e ≡ Memory
+pub memory_of : (text : List ℕ) (tokens : List Token) (e : ParseFault) → GivesLists (descriptions_of text tokens) (Err e) → (tree : File) → IsTreeOf text tokens tree → e ≡ Memory
 memory_of text tokens Memory gives tree is = refl
 memory_of text tokens (Syntax n) gives tree is =
     let read = there text tokens tree is in
-    absurd (no_refusal tree.modules read.0 (modules_of text tokens) (Syntax n) read.1 (gives (λ e. cc)))
+    absurd (no_refusal is.descriptions read.0 (descriptions_of text tokens) (Syntax n) read.1 (gives (λ e. cc)))
 memory_of text tokens (Unsupported n) gives tree is =
     let read = there text tokens tree is in
-    absurd (no_refusal tree.modules read.0 (modules_of text tokens) (Unsupported n) read.1 (gives (λ e. cc)))
+    absurd (no_refusal is.descriptions read.0 (descriptions_of text tokens) (Unsupported n) read.1 (gives (λ e. cc)))

@@ -84,9 +84,12 @@ unfoldable pub output : Reader Sym
 output = (λ z. z.1) <$> (skip_symbol 58 & field)
 
 -- the first field is the state where another follows, and else the output
+abbrev pub outcome_by : Sym → Option Sym → Option Sym × Sym
+outcome_by first None = (None, first)
+outcome_by first (Some out) = (Some first, out)
+
 abbrev pub outcome_of : Sym × Option Sym → Option Sym × Sym
-outcome_of (first, None) = (None, first)
-outcome_of (first, Some out) = (Some first, out)
+outcome_of z = outcome_by z.0 z.1
 
 -- `[ field : ] field`
 unfoldable pub outcome : Reader (Option Sym × Sym)
@@ -198,12 +201,24 @@ initial = initial_of <$> (word (codes "initial") & name & skip 61 & lit & skip 5
 
 -- ---- primitives
 
-abbrev pub udp_of : Place × (Name × (UdpPorts × (Unit {0} × (List UdpItem × (Option UdpInitial × (Unit {0} × (List PlacedRow × (Unit {0} × Unit {0})))))))) → UdpDecl
-udp_of z = record { place = z.0; name = z.1.0; ports = z.1.1.0; items = z.1.1.1.1.0; initial = z.1.1.1.1.1.0; rows = z.1.1.1.1.1.1.1.0 }
+-- `table { row } endtable`
+unfoldable pub table : Reader (List PlacedRow)
+table = (λ z. z.1.0) <$> (skip_word (codes "table") & many ends_table placed_row & skip_word (codes "endtable"))
 
--- `primitive Name ( ports ) ; { declaration } [ initial ] table { row } endtable endprimitive`
+-- `endprimitive`
+unfoldable pub ending : Reader (Unit {0})
+ending = skip_word (codes "endprimitive")
+
+abbrev pub body_of : List UdpItem × (Option UdpInitial × (List PlacedRow × Unit {0})) → List UdpItem × Option UdpInitial × List PlacedRow
+body_of z = (z.0, z.1.0, z.1.1.0)
+
+-- `{ declaration } [ initial ] table { row } endtable endprimitive`
+unfoldable pub body : Reader (List UdpItem × Option UdpInitial × List PlacedRow)
+body = body_of <$> (many ends_items udp_item & optional (sees_word (codes "initial")) initial & table & ending)
+
+abbrev pub udp_of : Place × (Name × (UdpPorts × (Unit {0} × (List UdpItem × Option UdpInitial × List PlacedRow)))) → UdpDecl
+udp_of z = record { place = z.0; name = z.1.0; ports = z.1.1.0; items = z.1.1.1.1.0; initial = z.1.1.1.1.1; rows = z.1.1.1.1.2 }
+
+-- `primitive Name ( ports ) ;` and the body
 unfoldable pub udp : Reader UdpDecl
-udp = udp_of
-    <$> (word (codes "primitive") & name & header & skip 59 & many ends_items udp_item & optional (sees_word (codes "initial")) initial & skip_word (codes "table") & many ends_table placed_row
-        & skip_word (codes "endtable")
-        & skip_word (codes "endprimitive"))
+udp = udp_of <$> (word (codes "primitive") & name & header & skip 59 & body)

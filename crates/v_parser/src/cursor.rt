@@ -2,7 +2,7 @@
 
 ghost use Rattle.std.specs.Prelude.{◌≡◌, ◌≤◌, ◌<◌, ◌∷◌, [], IfOk, IfSome, IfNone, ◌^◌, length, take, drop, ◌-◌};
 ghost use Rattle.v_lexer.specs.declared.token.TokenKind.TheVariants.{End};
-ghost use Rattle.v_tree.specs.Written.{slice_of};
+ghost use Rattle.v_tree.specs.Written.{slice_of, lower};
 ghost use Rattle.name_table.specs.Names.{is_among};
 ghost use Rattle.v_lexer.specs.Bytes.{first};
 ghost use Rattle.v_lexer.specs.Words.{is_in_word, words_of};
@@ -63,6 +63,19 @@ fn first(bytes: &[u8]) -> u8
     match bytes {
         [byte, ..] => *byte,
         [] => 0,
+    }
+}
+
+/// A capital as a small letter, another byte as it is.
+fn lower(byte: u8) -> u8
+    ensures { result ≡ lower byte }
+{
+    if byte < b'A' {
+        byte
+    } else if b'Z' < byte {
+        byte
+    } else {
+        byte + 32
     }
 }
 
@@ -136,7 +149,7 @@ fn copy_of(alloc: Global, bytes: &[u8]) -> Result<Bytes, AllocError>
     Ok(Bytes::from_vec(bytes.to_vec(alloc)?))
 }
 
-#[tactic(auto, unfolding(crate::specs::Input::front, crate::specs::Input::place, crate::specs::Input::next, crate::specs::Input::kind_of, crate::specs::Input::bytes, crate::specs::Input::refusal, crate::specs::Input::mark, crate::specs::Input::skip, crate::specs::Input::word, crate::specs::Input::skip_word, crate::specs::Input::finish, crate::specs::Input::name, crate::specs::Input::number, crate::specs::Input::placed_number, crate::specs::Input::placed_based, v_tree::specs::Written::form_of))]
+#[tactic(auto, unfolding(crate::specs::Input::front, crate::specs::Input::place, crate::specs::Input::next, crate::specs::Input::kind_of, crate::specs::Input::bytes, crate::specs::Input::refusal, crate::specs::Input::mark, crate::specs::Input::skip, crate::specs::Input::word, crate::specs::Input::skip_word, crate::specs::Input::skip_symbol, crate::specs::Input::finish, crate::specs::Input::name, crate::specs::Input::number, crate::specs::Input::placed_number, crate::specs::Input::placed_based, v_tree::specs::Written::form_of))]
 impl<'a> Cursor<'a> {
     /// All tokens of a text.
     pub fn new(alloc: Global, text: &'a [u8], tokens: &'a [Token]) -> Cursor<'a>
@@ -226,6 +239,27 @@ impl<'a> Cursor<'a> {
         }
     }
 
+    /// The next token's symbol of a table, where it is one.
+    pub fn seen_symbol(&self) -> Option<u8>
+        ensures { result ≡ spec.symbol_in (spec.front self.now) }
+    {
+        if self.kind() == TokenKind::Symbol {
+            Some(lower(first(self.bytes())))
+        } else {
+            None
+        }
+    }
+
+    /// Whether the next token is this symbol.
+    pub fn sees_symbol(&self, byte: u8) -> bool
+        ensures { result ≡ spec.is_symbol byte (spec.front self.now) }
+    {
+        match self.tokens {
+            [token, ..] if token.kind == TokenKind::Symbol => lower(first(self.bytes())) == byte,
+            _ => false,
+        }
+    }
+
     /// Whether the next token belongs to what the grammar leaves out.
     fn is_unsupported(&self) -> bool
         ensures { result ≡ spec.is_unsupported_in self.now.text self.now.tokens }
@@ -265,6 +299,18 @@ impl<'a> Cursor<'a> {
         ensures { Reads (spec.skip byte self.old) result self.new }
     {
         if self.sees_mark(byte) {
+            self.advance();
+            Ok(())
+        } else {
+            Err(self.refuse())
+        }
+    }
+
+    /// A symbol of a table.
+    pub fn skip_symbol(&mut self, byte: u8) -> Result<(), ParseFault>
+        ensures { Reads (spec.skip_symbol byte self.old) result self.new }
+    {
+        if self.sees_symbol(byte) {
             self.advance();
             Ok(())
         } else {

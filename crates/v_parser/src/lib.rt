@@ -3,6 +3,7 @@
 
 mod cursor;
 mod declarations;
+mod descriptions;
 mod drives;
 mod expressions;
 mod fault;
@@ -10,6 +11,8 @@ mod gates;
 mod lists;
 mod modules;
 mod parsing;
+mod primitives;
+mod rows;
 #[cfg(test)]
 mod tests;
 mod words;

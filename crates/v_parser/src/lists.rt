@@ -70,12 +70,14 @@ pub trait Repeated: Part {
         ensures { result ≡ stops (front cursor.now) };
 }
 
-/// Parts up to a token that ends them.
-#[tactic(auto, unfolding(crate::specs::Input::many, crate::specs::Input::many_from))]
-pub fn many<P: Repeated>(cursor: &mut Cursor<'_>) -> Result<Items<P>, ParseFault>
-    ensures { Reads (input.many P.stops P.reader cursor.old) result cursor.new }
+/// Parts up to a token that ends them, put behind those that were found.
+#[tactic(auto, unfolding(crate::specs::Input::many_after, crate::specs::Input::many_from))]
+fn many_after<P: Repeated>(
+    cursor: &mut Cursor<'_>,
+    mut found: Items<P>,
+) -> Result<Items<P>, ParseFault>
+    ensures { Reads (input.many_after P.stops P.reader found cursor.old) result cursor.new }
 {
-    let mut found = Items::new(cursor.alloc());
     for _ in 0..cursor.left() {
         if P::ends(cursor) {
             return Ok(found);
@@ -83,4 +85,23 @@ pub fn many<P: Repeated>(cursor: &mut Cursor<'_>) -> Result<Items<P>, ParseFault
         found.push(P::read(cursor)?)?;
     }
     Ok(found)
+}
+
+/// Parts up to a token that ends them.
+#[tactic(auto, unfolding(crate::specs::Input::many))]
+pub fn many<P: Repeated>(cursor: &mut Cursor<'_>) -> Result<Items<P>, ParseFault>
+    ensures { Reads (input.many P.stops P.reader cursor.old) result cursor.new }
+{
+    let found = Items::new(cursor.alloc());
+    many_after(cursor, found)
+}
+
+/// One part or several, up to a token that ends them.
+#[tactic(auto, unfolding(crate::specs::Input::some))]
+pub fn some<P: Repeated>(cursor: &mut Cursor<'_>) -> Result<Items<P>, ParseFault>
+    ensures { Reads (input.some P.stops P.reader cursor.old) result cursor.new }
+{
+    let mut found = Items::new(cursor.alloc());
+    found.push(P::read(cursor)?)?;
+    many_after(cursor, found)
 }

@@ -1,4 +1,4 @@
-//! Modules and files.
+//! Modules.
 
 ghost use Rattle.std.specs.Prelude.{◌≡◌, [], length, ◌<◌, ◌^◌};
 ghost use Rattle.v_parser.specs.Input as input;
@@ -17,7 +17,7 @@ use crate::words::{
     sees_switch, sees_tran,
 };
 use sqlite_items::Items;
-use v_tree::{AnsiEntry, AnsiPort, Item, Module, ModuleList, Ports};
+use v_tree::{AnsiEntry, AnsiPort, Item, Module, Ports};
 
 /// A pull gate, or an instance.
 #[tactic(auto, unfolding(crate::specs::Modules::pulls, crate::specs::Input::choice))]
@@ -237,7 +237,7 @@ fn header_ports(cursor: &mut Cursor<'_>) -> Result<Ports, ParseFault>
 
 /// `module Name [ ports ] ; { item } endmodule`
 #[tactic(auto, unfolding(crate::specs::Modules::module_at))]
-fn module_at(cursor: &mut Cursor<'_>) -> Result<Module, ParseFault>
+pub fn module_at(cursor: &mut Cursor<'_>) -> Result<Module, ParseFault>
     ensures { Reads (spec.module_at cursor.old) result cursor.new }
 {
     let (word, place) = opening_word(cursor)?;
@@ -253,34 +253,4 @@ fn module_at(cursor: &mut Cursor<'_>) -> Result<Module, ParseFault>
         ports,
         items,
     })
-}
-
-impl Part for Module {
-    ghost use Rattle.v_parser.specs.Modules.{module_at};
-
-    ghost reader = { module_at };
-
-    fn read(cursor: &mut Cursor<'_>) -> Result<Module, ParseFault> {
-        module_at(cursor)
-    }
-}
-
-impl Repeated for Module {
-    ghost use Rattle.v_parser.specs.Input.{is_finish};
-
-    ghost stops = { is_finish };
-
-    fn ends(cursor: &Cursor<'_>) -> bool {
-        cursor.sees_finish()
-    }
-}
-
-/// Modules up to the end of the text.
-#[tactic(auto, unfolding(crate::specs::Modules::modules))]
-pub fn modules(cursor: &mut Cursor<'_>) -> Result<ModuleList, ParseFault>
-    ensures { Reads (spec.modules cursor.old) result cursor.new }
-{
-    let modules = many(cursor)?;
-    cursor.finish()?;
-    Ok(modules)
 }

@@ -1,27 +1,30 @@
 ghost use Rattle.std.specs.Prelude.{◌≤◌, IfOk, length};
 ghost use Rattle.v_lexer.specs.Reading.{AreTokensOf};
 ghost use Rattle.v_tree.specs.declared.modules.File.{File};
-ghost use Rattle.v_tree.specs.Fit.{AreFit, IsFitModule};
+ghost use Rattle.v_tree.specs.Fit.{AreFitLists};
 ghost use Rattle.v_tree.specs.Tree.{IsTreeOf};
-ghost use Rattle.v_parser.specs.Reading.{Gives, GivesModules, IsUnlessMemory, modules_of};
+ghost use Rattle.v_parser.specs.Reading.{Gives, GivesLists, IsUnlessMemory, descriptions_of};
 
 use crate::cursor::Cursor;
+use crate::descriptions::descriptions;
 use crate::fault::ParseFault;
-use crate::modules::modules;
-use sqlite_items::Items;
 use std::alloc::Global;
 use v_lexer::{Token, TokenList};
-use v_tree::{File, ModuleList};
+use v_tree::{File, ModuleList, UdpDeclList};
 
-/// The modules of the tokens of a text.
-fn read_modules(alloc: Global, text: &[u8], tokens: &[Token]) -> Result<ModuleList, ParseFault>
+/// The modules and the primitives of the tokens of a text.
+fn read_lists(
+    alloc: Global,
+    text: &[u8],
+    tokens: &[Token],
+) -> Result<(ModuleList, UdpDeclList), ParseFault>
     requires small { length text.now ≤ 67108864 }
     requires tokens { AreTokensOf text.now tokens.now }
-    ensures exact { GivesModules (modules_of text.now tokens.now) result }
-    ensures fit { IfOk result (λ found. AreFit IsFitModule found) }
+    ensures exact { GivesLists (descriptions_of text.now tokens.now) result }
+    ensures fit { IfOk result (λ lists. AreFitLists lists.0 lists.1) }
 {
     let mut cursor = Cursor::new(alloc, text, tokens);
-    modules(&mut cursor)
+    descriptions(&mut cursor)
 }
 
 /// The tree of the tokens of a text of at most 64 MiB.
@@ -32,18 +35,18 @@ pub fn parse(alloc: Global, text: &[u8], tokens: &TokenList) -> Result<File, Par
     requires small { length text.now ≤ 67108864 }
     requires tokens { AreTokensOf text.now tokens.now }
     // The tree or the fault that reading gives.
-    ensures exact { Gives (modules_of text.now tokens.now) result }
+    ensures exact { Gives (descriptions_of text.now tokens.now) result }
     // The tokens are those with which the tree is written.
     ensures found { IfOk result (λ file. IsTreeOf text.now tokens.now file) }
     // Where a tree is written with them it is the one that is answered: so there is no other, and a
     // list that is refused is that of none.
     ensures only { (file : File) → IsTreeOf text.now tokens.now file → IsUnlessMemory file result }
 {
-    match read_modules(alloc, text, tokens.as_slice()) {
-        Ok(modules) => Ok(File {
-            modules,
-            udps: Items::new(alloc),
-        }),
+    match read_lists(alloc, text, tokens.as_slice()) {
+        Ok(lists) => {
+            let (modules, udps) = lists;
+            Ok(File { modules, udps })
+        }
         Err(fault) => Err(fault),
     }
 }

@@ -319,10 +319,14 @@ row r = one_by_one field r.ins ++ symbol 58 ∷ (outcome r.state r.out ++ symbol
 abbrev pub placed_row : PlacedRow → List Written
 placed_row r = placed_first r.place (row r.row)
 
+-- `table { row } endtable`
+abbrev pub table : List PlacedRow → List Written
+table rows = word (codes "table") ∷ (one_by_one placed_row rows ++ word (codes "endtable") ∷ [])
+
 -- `primitive Name ( ports ) ; { declaration } [ initial ] table { row } endtable endprimitive`
 abbrev pub udp : UdpDecl → List Written
 udp u = placed_word u.place (codes "primitive")
-    ∷ (name u.name ++ (udp_header u.ports ++ mark 59 ∷ (one_by_one udp_decl u.items ++ (written_if_there udp_initial u.initial ++ word (codes "table") ∷ (one_by_one placed_row u.rows ++ word (codes "endtable") ∷ word (codes "endprimitive") ∷ [])))))
+    ∷ (name u.name ++ (udp_header u.ports ++ mark 59 ∷ (one_by_one udp_decl u.items ++ (written_if_there udp_initial u.initial ++ (table u.rows ++ word (codes "endprimitive") ∷ [])))))
 
 -- ---- texts
 
