@@ -23,11 +23,11 @@ use Rattle.v_parser.proofs.TokenRules.{some_is, skip_symbol_rule}
 -- what a table gives for a symbol is as each entry is
 coded_is : {A : Type 0} (Is : ℕ → A → Type 0) (table : List (ℕ × A)) (byte : ℕ) (x : A) → coded table byte ≡ Some x → AllByRecursion (λ (entry : ℕ × A). Is entry.0 entry.1) table → Is byte x
 coded_is Is [] byte x e all = absurd cc
-coded_is {A} Is (entry ∷ entries) byte x e all = by (byte == entry.0) (λ h. eqb-true byte entry.0 h) e
+coded_is {A} Is (entry ∷ entries) byte x e all = by (byte == entry.0) (λ h. eqb-true byte entry.0 h) (λ later. coded_is Is entries byte x later all.1) e
   where
-    by : (b : Bool) → (b ≡ true → byte ≡ entry.0) → (if b then Some entry.1 else coded entries byte) ≡ Some x → Is byte x
-    by true same f = subst (Is byte) (some_is entry.1 x f) (subst (λ (n : ℕ). Is n entry.1) (sym (same refl)) all.0)
-    by false same f = coded_is Is entries byte x f all.1
+    by : (b : Bool) → (b ≡ true → byte ≡ entry.0) → (coded entries byte ≡ Some x → Is byte x) → (if b then Some entry.1 else coded entries byte) ≡ Some x → Is byte x
+    by true same later f = subst (Is byte) (some_is entry.1 x f) (subst (λ (n : ℕ). Is n entry.1) (sym (same refl)) all.0)
+    by false same later f = later f
 
 -- a token that stands for something is a symbol that does
 meant_is : {A : Type 0} (Is : ℕ → A → Type 0) (stands_for : ℕ → Option A) → ((byte : ℕ) (x : A) → stands_for byte ≡ Some x → Is byte x)

@@ -4,6 +4,7 @@ use super::*;
 use std::alloc::{AllocError, Global};
 use std::fmt::Write;
 use std::test::Fail;
+use udp_table::{Base, Sym};
 use v_lexer::{Bit, Literal, tokens};
 use v_tree::*;
 
@@ -35,7 +36,7 @@ m => syntax 0
 endmodule => syntax 0
 `x => unsupported 0
 always => unsupported 0
-primitive p(a); => syntax 0
+primitive p(a); => syntax 6
 module m( => syntax 3
 module m(; => syntax 3
 module m(,a); => syntax 3
@@ -59,6 +60,76 @@ module m #(1) (a); => syntax 2
 "x" => syntax 0
 1.5 => unsupported 0
 1e5 => unsupported 0
+"##;
+
+// Texts with primitives. A `=` shows a start value, a `*` the word `input` or `reg`; rows stand in
+// brackets behind their first token, with `/` for each `:`.
+const PRIMITIVES: &str = r##"primitive p(y,a); output y; input a; table 0 : 1 ; endtable endprimitive => 0:p (y,a) 8:o y 11:i a |15[0/1];
+primitive p(y); table endtable endprimitive => 0:p (y) |;
+primitive p(y,a); table endtable endprimitive module m; endmodule => 11:Module m Absent; 0:p (y,a) |;
+module m; endmodule primitive p(y); table endtable endprimitive => 0:Module m Absent; 4:p (y) |;
+primitive p(output y, input a); table endtable endprimitive => 0:p (>y,*a) |;
+primitive p(output y, a, input b); table endtable endprimitive => 0:p (>y,a,*b) |;
+primitive p(output y); table endtable endprimitive => 0:p (>y) |;
+primitive p(output reg y, input a); table endtable endprimitive => 0:p (>*y,*a) |;
+primitive p(output reg y = 1'b0, input a); table endtable endprimitive => 0:p (>*y=1b0,*a) |;
+primitive p(output y = 1, input a); table endtable endprimitive => 0:p (>y=1,*a) |;
+primitive \p+ (y,a); output reg y; input a; table endtable endprimitive => 0:p+ (y,a) 8:o *y 12:i a |;
+primitive p(y,a); output y = 0; reg y; input a, b; table endtable endprimitive => 0:p (y,a) 8:o y=0 13:r y 16:i a,b |;
+primitive p(y,a); output reg y = 1'bx; table endtable endprimitive => 0:p (y,a) 8:o *y=1bx |;
+primitive p(y); initial y = 1'b1; table endtable endprimitive => 0:p (y) 6:y=1b1 |;
+primitive p(y); reg y; initial y = 0; table endtable endprimitive => 0:p (y) 6:r y 9:y=0 |;
+primitive p(y); table 0 1 : x ; ? b : 0 ; endtable endprimitive => 0:p (y) |7[01/x] 12[?b/0];
+primitive p(y); table 0 : 1 : - ; r f : ? : 0 ; endtable endprimitive => 0:p (y) |7[0/1/-] 13[rf/?/0];
+primitive p(y); table (01) * : b : 1 ; p n (?x) : 0 : x ; endtable endprimitive => 0:p (y) |7[(01)*/b/1] 17[pn(?x)/0/x];
+primitive p(y); table (b0)(1?) : (xx) ; endtable endprimitive => 0:p (y) |7[(b0)(1?)/(xx)];
+primitive p(y); table R F P N X B : X ; (BX) : B : X ; endtable endprimitive => 0:p (y) |7[rfpnxb/x] 16[(bx)/b/x];
+primitive p(y); table 01:1;10:0; endtable endprimitive => 0:p (y) |7[01/1] 12[10/0];
+primitive p(y); table - : r : * ; endtable endprimitive => 0:p (y) |7[-/r/*];
+primitive => syntax 1
+primitive p => syntax 2
+primitive p; => syntax 2
+primitive p(); => syntax 3
+primitive p(y; => syntax 4
+primitive p(y,); => syntax 5
+primitive p(y) table endtable endprimitive => syntax 5
+primitive p(input a, output y); => syntax 3
+primitive p(output reg reg y); => unsupported 5
+primitive p(output [1:0] y); => syntax 4
+primitive p(output y = a); => syntax 6
+primitive p(output y = ); => syntax 6
+primitive p(output y, output z); => syntax 6
+primitive p(output y, input a, b; => syntax 10
+primitive p(reg y); => unsupported 3
+primitive p(y); input reg a; => unsupported 7
+primitive p(y); reg a, b; => syntax 8
+primitive p(y); reg a = 1; => syntax 8
+primitive p(y); output y, z; => syntax 8
+primitive p(y); inout a; => syntax 6
+primitive p(y); wire a; => syntax 6
+primitive p(y); initial y; => syntax 8
+primitive p(y); initial y = z; => syntax 9
+primitive p(y); initial y = 0; initial y = 0; => unsupported 11
+primitive p(y); initial y = 0; reg y; => unsupported 11
+primitive p(y); always y; => unsupported 6
+primitive p(y); endprimitive => syntax 6
+primitive p(y); table 0 ; endtable endprimitive => syntax 8
+primitive p(y); table 0 1 => syntax 9
+primitive p(y); table : 0 ; endtable endprimitive => syntax 7
+primitive p(y); table 0 : ; endtable endprimitive => syntax 9
+primitive p(y); table 0 : 1 endtable endprimitive => syntax 10
+primitive p(y); table 0 : 0 1 ; endtable endprimitive => syntax 10
+primitive p(y); table 0 : 0 : ; endtable endprimitive => syntax 11
+primitive p(y); table 0 : 0 : 1 : 1 ; endtable endprimitive => syntax 12
+primitive p(y); table (0) : 1 ; endtable endprimitive => syntax 9
+primitive p(y); table (01x) : 1 ; endtable endprimitive => syntax 10
+primitive p(y); table (0r) : 1 ; endtable endprimitive => syntax 9
+primitive p(y); table () : 1 ; endtable endprimitive => syntax 8
+primitive p(y); table ) : 1 ; endtable endprimitive => syntax 7
+primitive p(y); table endtable => syntax 8
+primitive p(y); table endtable endmodule => syntax 8
+primitive p(y); table endtable table endtable endprimitive => syntax 8
+primitive p(y); table endtable endprimitive; => syntax 9
 "##;
 
 // The items of a module `m` that begin at token 3.
@@ -660,12 +731,171 @@ fn show_module(shown: &mut String, module: &Module) -> Result<(), AllocError> {
     show_items(shown, &module.items)
 }
 
+fn show_start(shown: &mut String, start: &Option<Lit>) -> Result<(), AllocError> {
+    match start {
+        Some(value) => {
+            shown.push('=')?;
+            show_lit(shown, value)
+        }
+        None => Ok(()),
+    }
+}
+
+fn show_lit(shown: &mut String, value: &Lit) -> Result<(), AllocError> {
+    match value {
+        Lit::Number(_, number) => {
+            write!(shown, "{number}")?;
+            Ok(())
+        }
+        Lit::Based(_, literal) => show_literal(shown, literal),
+    }
+}
+
+fn show_star(shown: &mut String, there: bool) -> Result<(), AllocError> {
+    if there {
+        shown.push('*')?;
+    }
+    Ok(())
+}
+
+fn show_header(shown: &mut String, ports: &UdpPorts) -> Result<(), AllocError> {
+    match ports {
+        UdpPorts::Names(names) => show_names(shown, names),
+        UdpPorts::Declared {
+            is_reg,
+            output,
+            start,
+            inputs,
+        } => {
+            shown.push('>')?;
+            show_star(shown, *is_reg)?;
+            show_bytes(shown, output.text.as_slice())?;
+            show_start(shown, start)?;
+            for input in inputs.as_slice() {
+                shown.push(',')?;
+                show_star(shown, input.has_word)?;
+                show_bytes(shown, input.name.text.as_slice())?;
+            }
+            Ok(())
+        }
+    }
+}
+
+fn show_udp_item(shown: &mut String, item: &UdpItem) -> Result<(), AllocError> {
+    match item {
+        UdpItem::Output {
+            place,
+            is_reg,
+            name,
+            start,
+        } => {
+            let token = place.token;
+            write!(shown, "{token}:o ")?;
+            show_star(shown, *is_reg)?;
+            show_bytes(shown, name.text.as_slice())?;
+            show_start(shown, start)?;
+        }
+        UdpItem::Input(place, names) => {
+            let token = place.token;
+            write!(shown, "{token}:i ")?;
+            show_names(shown, names)?;
+        }
+        UdpItem::Reg(place, name) => {
+            let token = place.token;
+            write!(shown, "{token}:r ")?;
+            show_bytes(shown, name.text.as_slice())?;
+        }
+    }
+    shown.push(' ')
+}
+
+fn base_letter(base: Base) -> char {
+    match base {
+        Base::Zero => '0',
+        Base::One => '1',
+        Base::X => 'x',
+        Base::Any => '?',
+        Base::Both => 'b',
+    }
+}
+
+fn show_sym(shown: &mut String, sym: Sym) -> Result<(), AllocError> {
+    match sym {
+        Sym::Zero => shown.push('0'),
+        Sym::One => shown.push('1'),
+        Sym::X => shown.push('x'),
+        Sym::Any => shown.push('?'),
+        Sym::Both => shown.push('b'),
+        Sym::Same => shown.push('-'),
+        Sym::Rise => shown.push('r'),
+        Sym::Fall => shown.push('f'),
+        Sym::Pos => shown.push('p'),
+        Sym::Neg => shown.push('n'),
+        Sym::Change => shown.push('*'),
+        Sym::Edge(from, to) => {
+            shown.push('(')?;
+            shown.push(base_letter(from))?;
+            shown.push(base_letter(to))?;
+            shown.push(')')
+        }
+    }
+}
+
+fn show_row(shown: &mut String, row: &PlacedRow) -> Result<(), AllocError> {
+    let token = row.place.token;
+    write!(shown, "{token}[")?;
+    for sym in row.row.ins.as_slice() {
+        show_sym(shown, *sym)?;
+    }
+    shown.push('/')?;
+    if let Some(state) = row.row.state {
+        show_sym(shown, state)?;
+        shown.push('/')?;
+    }
+    show_sym(shown, row.row.out)?;
+    shown.push(']')
+}
+
+fn show_udp(shown: &mut String, udp: &UdpDecl) -> Result<(), AllocError> {
+    let token = udp.place.token;
+    write!(shown, "{token}:")?;
+    show_bytes(shown, udp.name.text.as_slice())?;
+    shown.push_str(" (")?;
+    show_header(shown, &udp.ports)?;
+    shown.push_str(") ")?;
+    for item in udp.items.as_slice() {
+        show_udp_item(shown, item)?;
+    }
+    if let Some(initial) = &udp.initial {
+        let token = initial.place.token;
+        write!(shown, "{token}:")?;
+        show_bytes(shown, initial.name.text.as_slice())?;
+        shown.push('=')?;
+        show_lit(shown, &initial.value)?;
+        shown.push(' ')?;
+    }
+    shown.push('|')?;
+    for (i, row) in udp.rows.as_slice().iter().enumerate() {
+        if i > 0 {
+            shown.push(' ')?;
+        }
+        show_row(shown, row)?;
+    }
+    shown.push(';')
+}
+
 fn show_file(shown: &mut String, file: &File) -> Result<(), AllocError> {
     for (i, module) in file.modules.as_slice().iter().enumerate() {
         if i > 0 {
             shown.push(' ')?;
         }
         show_module(shown, module)?;
+    }
+    for (i, udp) in file.udps.as_slice().iter().enumerate() {
+        if i > 0 || !file.modules.is_empty() {
+            shown.push(' ')?;
+        }
+        show_udp(shown, udp)?;
     }
     Ok(())
 }
@@ -701,6 +931,16 @@ fn parsed(alloc: Global, text: &str) -> Result<String, AllocError> {
 #[test]
 fn each_file_has_its_tree_or_its_refused_token(rt: HostRuntime) -> Result<(), Fail> {
     for row in FILES.lines() {
+        let (text, wanted) = row.split_once(" => ").ok_or("no row")?;
+        let shown = parsed(rt.alloc(), text)?;
+        assert_eq!(rt; shown.as_str(), wanted, "of {text}");
+    }
+    Ok(())
+}
+
+#[test]
+fn each_primitive_has_its_tree_or_its_refused_token(rt: HostRuntime) -> Result<(), Fail> {
+    for row in PRIMITIVES.lines() {
         let (text, wanted) = row.split_once(" => ").ok_or("no row")?;
         let shown = parsed(rt.alloc(), text)?;
         assert_eq!(rt; shown.as_str(), wanted, "of {text}");
