@@ -1,14 +1,6 @@
 -- Rules of modules.
-use Rattle.std.proofs.Common.{◌≡◌, ◌≢◌, ℕ, suc, ◌+◌, ◌<◌, ◌≤◌, Bool, true, false, not, if◌then◌else◌, List, [], ◌∷◌, ◌++◌, length, Option, Some, None, Ok, codes, ◌⊎◌, inl, inr, refl, sym, ap, subst, ◌∙◌, arith, append-nil, length-append}
-use Rattle.std.specs.Prelude.{nat_lt}
+use Rattle.std.proofs.Common.{◌≡◌, ℕ, suc, ◌<◌, ◌≤◌, true, false, not, List, [], ◌∷◌, ◌++◌, length, Option, codes, ◌⊎◌, inl, inr, refl, sym, ap, subst, ◌∙◌, arith}
 use Rattle.std.proofs.lemmas.Bool.{not-true, cases_lt}
-use Rattle.v_lexer.specs.declared.token.Token.{Token}
-use Rattle.v_lexer.specs.declared.token.TokenKind.{TokenKind}
-use Rattle.v_lexer.specs.declared.token.TokenKind.TheVariants.{End}
-use Rattle.v_lexer.specs.declared.token.TokenKind.TheVariants as kind
-use Rattle.v_lexer.specs.declared.values.Literal.{Literal}
-use Rattle.v_lexer.specs.Numbers.{decimal_value}
-use Rattle.v_lexer.specs.Values.{literal_of}
 use Rattle.v_tree.specs.declared.places.Place.{Place}
 use Rattle.v_tree.specs.declared.places.Name.{Name}
 use Rattle.v_tree.specs.declared.expressions.Range.{Range}
@@ -31,18 +23,17 @@ use Rattle.v_tree.specs.declared.modules.Ports.TheVariants as ports
 use Rattle.v_tree.specs.declared.modules.Item.{Item}
 use Rattle.v_tree.specs.declared.modules.Item.TheVariants as item
 use Rattle.v_tree.specs.declared.modules.Module.{Module}
-use Rattle.v_tree.specs.Written.{form_of, form_by, based_form, slice_of, Written, bare, AreWritten, between_commas, one_by_one}
-use Rattle.v_tree.specs.Written as form
+use Rattle.v_tree.specs.Written.{Written, between_commas}
 use Rattle.v_tree.specs.Fit as fit
 use Rattle.v_tree.specs.Spelling as spell
-use Rattle.v_parser.specs.Input.{Input, Reader, front, next, pure, is_mark, is_finish, choice, ◌<$>◌}
+use Rattle.v_parser.specs.Input.{Input, Reader, pure, is_mark, choice, ◌<$>◌}
 use Rattle.v_parser.specs.Expressions.{sees_mark, sees_name}
 use Rattle.v_parser.specs.Words.{sees_net_type}
 use Rattle.v_parser.specs.Gates.{instance}
 use Rattle.v_parser.specs.Modules.{sees_mark_second, sees_name_second, ends_module}
 use Rattle.v_parser.specs.Modules as read
-use Rattle.v_parser.proofs.Rules.{Rule, Follow, anything, begins, first_form, IsSource, IsEnd, Takes, takes_length, ok_is, ok_of, whole, written_takes, takes_written, map_rule, variant_rule, refit_rule, follow_rule, pair_rule, optional_rule, choice_rule, commas_rule, separated_rule, many_rule}
-use Rattle.v_parser.proofs.TokenRules.{name_rule, skip_rule, skip_word_rule, direction_rule, opening_rule, finish_rule}
+use Rattle.v_parser.proofs.Rules.{Rule, Follow, anything, begins, first_form, Takes, ok_is, ok_of, map_rule, variant_rule, refit_rule, follow_rule, pair_rule, optional_rule, choice_rule, commas_rule, separated_rule, many_rule}
+use Rattle.v_parser.proofs.TokenRules.{name_rule, skip_rule, skip_word_rule, direction_rule, opening_rule}
 use Rattle.v_parser.proofs.ExprRules.{range_rule}
 use Rattle.v_parser.proofs.DriveRules.{free_if_there}
 use Rattle.v_parser.proofs.DeclarationRules.{may_skip, no_net_type, net_type_begins, net_type_rule, port_decl_rule, net_decl_rule, trireg_decl_rule, assign_item_rule}

@@ -1,5 +1,5 @@
 -- Rules of the rows of a table.
-use Rattle.std.proofs.Common.{◌≡◌, ℕ, ◌<◌, ◌==◌, Bool, true, false, not, ◌&&◌, if◌then◌else◌, List, [], ◌∷◌, ◌++◌, length, Option, Some, None, ◌⊎◌, inl, inr, refl, sym, ap, subst, ◌∙◌, arith, append-nil, length-append}
+use Rattle.std.proofs.Common.{◌≡◌, ℕ, ◌<◌, ◌==◌, Bool, true, false, not, ◌&&◌, if◌then◌else◌, List, [], ◌∷◌, ◌++◌, length, Option, Some, None, ◌⊎◌, inl, inr, refl, sym, ap, subst, ◌∙◌, arith, append-nil}
 use Rattle.std.specs.List.{AllByRecursion}
 use Rattle.std.proofs.lemmas.Bool.{eqb-true}
 use Rattle.v_tree.specs.declared.places.Place.{Place}
@@ -17,7 +17,7 @@ use Rattle.v_tree.specs.Spelling as spell
 use Rattle.v_parser.specs.Input.{is_symbol, symbol_in}
 use Rattle.v_parser.specs.Primitives.{coded, meant, sees_symbol, ends_table}
 use Rattle.v_parser.specs.Primitives as read
-use Rattle.v_parser.proofs.Rules.{Rule, Follow, anything, begins, first_form, IsOpen, bare_rule, map_rule, variant_rule, refit_rule, respell_rule, follow_rule, pair_rule, optional_rule, choice_rule, some_rule, here_rule}
+use Rattle.v_parser.proofs.Rules.{Rule, Follow, anything, begins, first_form, IsOpen, bare_rule, map_rule, variant_rule, refit_rule, respell_rule, pair_rule, optional_rule, choice_rule, some_rule, here_rule}
 use Rattle.v_parser.proofs.TokenRules.{some_is, skip_symbol_rule}
 
 -- what a table gives for a symbol is as each entry is
@@ -188,19 +188,23 @@ outcome_parts_by (Some state) out = (state, Some out)
 abbrev outcome_parts : Option Sym × Sym → Sym × Option Sym
 outcome_parts z = outcome_parts_by z.0 z.1
 
+-- a state and an output are made of their parts
 outcome_there : (state : Option Sym) (out : Sym) → read.outcome_of (outcome_parts_by state out) ≡ (state, out)
 outcome_there None out = refl
 outcome_there (Some state) out = refl
 
+-- a state and an output have the parts that they are made of
 outcome_back : (first : Sym) (out : Option Sym) → outcome_parts (read.outcome_by first out) ≡ (first, out)
 outcome_back first None = refl
 outcome_back first (Some out) = refl
 
+-- a state that is there or not and an output are written so
 outcome_spelled : (state : Option Sym) (out : Sym)
     → spell.field (outcome_parts_by state out).0 ++ written_if_there (λ (x : Sym). spell.symbol 58 ∷ spell.field x) (outcome_parts_by state out).1 ≡ spell.outcome state out
 outcome_spelled None out = append-nil (spell.field out)
 outcome_spelled (Some state) out = refl
 
+-- a state and an output have nothing to keep
 outcome_free : (state : Option Sym) (out : Sym) → Unit {0} × fit.IsFitIfThere fit.IsFree (outcome_parts_by state out).1
 outcome_free None out = (tt, tt)
 outcome_free (Some state) out = (tt, tt)

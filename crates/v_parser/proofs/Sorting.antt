@@ -1,12 +1,12 @@
 -- One turn of the loop that sorts descriptions.
-use Rattle.std.proofs.Common.{◌≡◌, ◌≢◌, ℕ, zero, suc, ◌+◌, ◌-◌, ◌<◌, Bool, true, false, List, [], ◌∷◌, ◌++◌, length, Result, Ok, Err, refl, subst, sym, ap, ◌∙◌, append_assoc, append-nil}
+use Rattle.std.proofs.Common.{◌≡◌, ◌≢◌, ℕ, zero, suc, ◌+◌, ◌-◌, ◌<◌, true, false, List, [], ◌∷◌, ◌++◌, length, Result, Ok, Err, refl, subst, sym, ap, ◌∙◌, append_assoc, append-nil}
 use Rattle.v_tree.specs.declared.modules.Module.{Module}
 use Rattle.v_tree.specs.declared.modules.Description.{Description}
 use Rattle.v_tree.specs.declared.primitives.UdpDecl.{UdpDecl}
 use Rattle.v_tree.specs.Tree.{module_of, udp_of, modules_among, udps_among}
 use Rattle.v_parser.specs.declared.fault.ParseFault.{ParseFault}
 use Rattle.v_parser.specs.declared.fault.ParseFault.TheVariants.{Memory}
-use Rattle.v_parser.specs.Input.{Input, Outcome, front, is_finish, many_from, many_after, many, and_then, finish}
+use Rattle.v_parser.specs.Input.{Input, Outcome, front, is_finish, many_from, many_after, many, finish}
 use Rattle.v_parser.specs.Descriptions.{description, descriptions}
 use Rattle.v_parser.specs.Reading.{Sorts, ReadsSorted}
 use Rattle.v_parser.proofs.Turns.{left_over, many_step}

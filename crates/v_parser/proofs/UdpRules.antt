@@ -1,5 +1,5 @@
 -- Rules of user-defined primitives.
-use Rattle.std.proofs.Common.{◌≡◌, ℕ, ◌<◌, Bool, true, false, not, ◌&&◌, ◌||◌, List, [], ◌∷◌, ◌++◌, length, Option, Some, None, codes, ◌⊎◌, inl, inr, refl, sym, ap, subst, ◌∙◌, arith}
+use Rattle.std.proofs.Common.{◌≡◌, ℕ, ◌<◌, Bool, true, false, not, ◌&&◌, List, [], ◌∷◌, ◌++◌, length, Option, Some, None, codes, ◌⊎◌, inl, inr, refl, sym, ap, subst, arith}
 use Rattle.v_lexer.specs.declared.values.Literal.{Literal}
 use Rattle.v_tree.specs.declared.places.Place.{Place}
 use Rattle.v_tree.specs.declared.places.Name.{Name}
@@ -16,12 +16,11 @@ use Rattle.v_tree.specs.declared.primitives.UdpDecl.{UdpDecl}
 use Rattle.v_tree.specs.Written.{Written, written_if_there, behind_commas, one_by_one}
 use Rattle.v_tree.specs.Fit as fit
 use Rattle.v_tree.specs.Spelling as spell
-use Rattle.v_parser.specs.Input.{◌<$>◌, placed_number, placed_based}
 use Rattle.v_parser.specs.Expressions.{sees_mark, sees_number}
 use Rattle.v_parser.specs.Modules.{sees_word}
 use Rattle.v_parser.specs.Primitives.{sees_word_second, ends_items, ends_table}
 use Rattle.v_parser.specs.Primitives as read
-use Rattle.v_parser.proofs.Rules.{Rule, Follow, anything, begins, first_form, map_rule, variant_rule, refit_rule, respell_rule, follow_rule, pair_rule, optional_rule, choice_rule, commas_rule, separated_rule, many_rule}
+use Rattle.v_parser.proofs.Rules.{Rule, Follow, anything, begins, first_form, map_rule, variant_rule, refit_rule, respell_rule, pair_rule, optional_rule, choice_rule, commas_rule, separated_rule, many_rule}
 use Rattle.v_parser.proofs.TokenRules.{name_rule, placed_number_rule, placed_based_rule, skip_rule, word_rule, skip_word_rule}
 use Rattle.v_parser.proofs.DeclarationRules.{may_skip}
 use Rattle.v_parser.proofs.RowRules.{placed_row_rule, row_some, row_begins}
@@ -32,18 +31,22 @@ abbrev flag_part : Bool → Option (Unit {0})
 flag_part true = Some tt
 flag_part false = None
 
+-- a flag is made of its parts
 flag_there : (b : Bool) → read.is_there (flag_part b) ≡ b
 flag_there true = refl
 flag_there false = refl
 
+-- a flag has the parts that it is made of
 flag_back : (o : Option (Unit {0})) → flag_part (read.is_there o) ≡ o
 flag_back (Some u) = refl
 flag_back None = refl
 
+-- a word that is there or not is written so
 flag_spelled : (bytes : List ℕ) (b : Bool) → written_if_there (λ (u : Unit {0}). spell.word bytes ∷ []) (flag_part b) ≡ spell.word_if_there bytes b
 flag_spelled bytes true = refl
 flag_spelled bytes false = refl
 
+-- a flag has nothing to keep
 flag_free : (b : Bool) → fit.IsFitIfThere fit.IsFree (flag_part b)
 flag_free true = tt
 flag_free false = tt
@@ -134,7 +137,7 @@ named_header_rule =
 -- ports with an output and inputs
 declared_from : (x : UdpPorts) → AreDeclared x
     → (z : Unit {0} × (Unit {0} × (Bool × (Name × (Option Lit × (List UdpInput × Unit {0})))))) × (x ≡ read.declared_of z)
-        × (Unit {0} × (Unit {0} × (Unit {0} × (fit.IsFitName z.1.1.1.0 × (fit.IsFitIfThere fit.IsFitLit z.1.1.1.1.0 × (fit.AreFit fit.IsFitUdpInput z.1.1.1.1.1.0 × Unit {0}))))))
+    × (Unit {0} × (Unit {0} × (Unit {0} × (fit.IsFitName z.1.1.1.0 × (fit.IsFitIfThere fit.IsFitLit z.1.1.1.1.0 × (fit.AreFit fit.IsFitUdpInput z.1.1.1.1.1.0 × Unit {0}))))))
 declared_from (ports.Declared is_reg output value inputs) f =
     ((tt, (tt, (is_reg, (output, (value, (inputs, tt)))))), refl, (tt, (tt, (tt, (f.output, (f.value, (f.inputs, tt)))))))
 declared_from x f = absurd f
@@ -261,19 +264,22 @@ reg_item_rule =
     refit_rule (variant_rule (pair_rule (word_rule (codes "reg")) (pair_rule name_rule (skip_rule 59) (λ y ws f g. refl)) (λ y ws f g. refl)) read.reg_of spell.udp_decl (λ a. refl))
     (λ x f. subst IsReg (sym f.1) f.2.1.0) reg_from
 
--- each kind of declaration is seen by its word
+-- inputs are seen by their word
 input_seen : (x : UdpItem) (ws : List Written) → IsInput x → begins (sees_word (codes "input")) (spell.udp_decl x ++ ws) ≡ true
 input_seen (item.Input place names) ws f = refl
 input_seen x ws f = absurd f
 
+-- a register isn't seen as inputs
 reg_seen : (x : UdpItem) (ws : List Written) → IsReg x → begins (sees_word (codes "input")) (spell.udp_decl x ++ ws) ≡ false
 reg_seen (item.Reg place n) ws f = refl
 reg_seen x ws f = absurd f
 
+-- an output is seen by its word
 output_seen : (x : UdpItem) (ws : List Written) → IsOutput x → begins (sees_word (codes "output")) (spell.udp_decl x ++ ws) ≡ true
 output_seen (item.Output place is_reg output value) ws f = refl
 output_seen x ws f = absurd f
 
+-- inputs and a register aren't seen as an output
 other_seen : (x : UdpItem) (ws : List Written) → IsInput x ⊎ IsReg x → begins (sees_word (codes "output")) (spell.udp_decl x ++ ws) ≡ false
 other_seen (item.Input place names) ws (inl f) = refl
 other_seen (item.Reg place n) ws (inr f) = refl

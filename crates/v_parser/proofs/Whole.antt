@@ -1,5 +1,5 @@
 -- What is read of all tokens of a text is its tree.
-use Rattle.std.proofs.Common.{◌≡◌, ℕ, ◌≤◌, ◌<◌, List, [], ◌∷◌, ◌++◌, length, Result, Ok, Err, refl, sym, ap, subst, ◌∙◌, arith}
+use Rattle.std.proofs.Common.{◌≡◌, ℕ, ◌≤◌, List, [], ◌∷◌, length, Result, Ok, Err, refl, sym, ap, subst, ◌∙◌, arith}
 use Rattle.std.specs.Prelude.{IfOk}
 use Rattle.std.specs.List.{AllByRecursion}
 use Rattle.v_lexer.specs.declared.token.Token.{Token}
@@ -79,9 +79,11 @@ abbrev descriptions_in : List Description → Outcome (List Description) → Lis
 descriptions_in others (Ok found) = found.0
 descriptions_in others (Err e) = others
 
+-- an outcome has one list of descriptions
 same_descriptions : (ds es : List Description) (r s : Input) (outcome : Outcome (List Description)) → outcome ≡ Ok (ds, r) → outcome ≡ Ok (es, s) → ds ≡ es
 same_descriptions ds es r s outcome one other = ap (descriptions_in ds) (sym one ∙ other)
 
+-- an outcome with descriptions is no refusal
 no_refusal : (ds : List Description) (rest : Input) (outcome : Outcome (List Description)) (e : ParseFault) → outcome ≡ Ok (ds, rest) → outcome ≡ Err e → ⊥
 no_refusal ds rest outcome e ok err = cc
 

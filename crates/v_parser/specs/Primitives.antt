@@ -1,6 +1,5 @@
 -- User-defined primitives.
 use Rattle.std.specs.Prelude.{ℕ, Bool, true, false, not, ◌||◌, ◌==◌, if◌then◌else◌, List, [], ◌∷◌, Option, Some, None, codes}
-use Rattle.v_lexer.specs.declared.values.Literal.{Literal}
 use Rattle.v_tree.specs.declared.places.Place.{Place}
 use Rattle.v_tree.specs.declared.places.Name.{Name}
 use Rattle.v_tree.specs.declared.primitives.Lit.{Lit}

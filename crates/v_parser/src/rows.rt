@@ -8,8 +8,8 @@ ghost use Rattle.v_parser.specs.Primitives as spec;
 use crate::cursor::Cursor;
 use crate::fault::ParseFault;
 use crate::lists::{Part, Repeated, some};
-use std::alloc::{AllocError, Global};
 use sqlite_items::Items;
+use std::alloc::{AllocError, Global};
 use udp_table::{Base, Sym, SymList, UdpRow};
 use v_tree::PlacedRow;
 

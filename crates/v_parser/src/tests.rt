@@ -64,7 +64,8 @@ module m #(1) (a); => syntax 2
 
 // Texts with primitives. A `=` shows a start value, a `*` the word `input` or `reg`; rows stand in
 // brackets behind their first token, with `/` for each `:`.
-const PRIMITIVES: &str = r##"primitive p(y,a); output y; input a; table 0 : 1 ; endtable endprimitive => 0:p (y,a) 8:o y 11:i a |15[0/1];
+const PRIMITIVES: &str =
+    r##"primitive p(y,a); output y; input a; table 0 : 1 ; endtable endprimitive => 0:p (y,a) 8:o y 11:i a |15[0/1];
 primitive p(y); table endtable endprimitive => 0:p (y) |;
 primitive p(y,a); table endtable endprimitive module m; endmodule => 11:Module m Absent; 0:p (y,a) |;
 module m; endmodule primitive p(y); table endtable endprimitive => 0:Module m Absent; 4:p (y) |;
