@@ -11,3 +11,4 @@ pub mod ItemKinds
 pub mod ModuleRules
 pub mod Source
 pub mod Whole
+pub mod Refusals
