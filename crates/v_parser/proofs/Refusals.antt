@@ -234,3 +234,339 @@ skip_word_safe bytes = map_safe _ (token_safe (λ f. where_true (is_word bytes f
 range_safe : Safe read.range
 unfolding read.range
 range_safe = map_safe _ (pair_safe (skip_safe 91) (pair_safe number_safe (pair_safe (skip_safe 58) (pair_safe number_safe (skip_safe 93)))))
+
+-- `: number`
+bound_safe : Safe read.bound
+unfolding read.bound
+bound_safe = map_safe _ (pair_safe (skip_safe 58) number_safe)
+
+-- `[ number ]` or `[ number : number ]`
+select_safe : Safe read.select
+unfolding read.select
+select_safe = map_safe _ (pair_safe (skip_safe 91) (pair_safe number_safe (pair_safe (optional_safe _ bound_safe) (skip_safe 93))))
+
+-- a name, with a select or without one
+pick_safe : Safe read.pick
+unfolding read.pick
+pick_safe = map_safe _ (pair_safe name_safe (optional_safe _ select_safe))
+
+-- a pick, a number or a based number
+atom_safe : Safe read.atom
+unfolding read.atom
+atom_safe = choice_safe _ (map_safe _ pick_safe) (choice_safe _ (map_safe _ placed_number_safe) (map_safe _ placed_based_safe))
+
+-- an expression with concatenations so deep at most
+expr_at_safe : (depth : ℕ) → Safe (read.expr_at depth)
+unfolding read.expr_at
+expr_at_safe zero = atom_safe
+expr_at_safe (suc depth) = choice_safe _ (map_safe _ (pair_safe (mark_safe 123) (pair_safe (separated_safe (expr_at_safe depth)) (skip_safe 125)))) atom_safe
+
+-- a target with concatenations so deep at most
+target_at_safe : (depth : ℕ) → Safe (read.target_at depth)
+unfolding read.target_at
+target_at_safe zero = map_safe _ pick_safe
+target_at_safe (suc depth) = choice_safe _ (map_safe _ (pair_safe (mark_safe 123) (pair_safe (separated_safe (target_at_safe depth)) (skip_safe 125)))) (map_safe _ pick_safe)
+
+-- an expression of the grammar
+expr_safe : Safe declare.expr
+unfolding declare.expr
+expr_safe = expr_at_safe 64
+
+-- a target of the grammar
+target_safe : Safe declare.target
+unfolding declare.target
+target_safe = target_at_safe 64
+
+-- ---- drives, charges and delays
+
+-- a level
+level_safe : Safe drives.level
+unfolding drives.level
+level_safe = map_safe _ (token_safe words.level_in refl)
+
+-- `( level , level )`
+drive_safe : Safe drives.drive
+unfolding drives.drive
+drive_safe = map_safe _ (pair_safe (mark_safe 40) (pair_safe level_safe (pair_safe (skip_safe 44) (pair_safe level_safe (skip_safe 41)))))
+
+-- `, level`
+second_level_safe : Safe drives.second_level
+unfolding drives.second_level
+second_level_safe = map_safe _ (pair_safe (skip_safe 44) level_safe)
+
+-- `( level )` or `( level , level )`
+pull_levels_safe : Safe drives.pull_levels
+unfolding drives.pull_levels
+pull_levels_safe = map_safe _ (pair_safe (mark_safe 40) (pair_safe level_safe (pair_safe (optional_safe _ second_level_safe) (skip_safe 41))))
+
+-- a word for a charge
+charge_named_safe : Safe drives.charge_named
+unfolding drives.charge_named
+charge_named_safe = map_safe _ (token_safe words.charge_in refl)
+
+-- `( charge )`
+charge_safe : Safe drives.charge
+unfolding drives.charge
+charge_safe = map_safe _ (pair_safe (skip_safe 40) (pair_safe charge_named_safe (skip_safe 41)))
+
+-- `: number : number`
+other_values_safe : Safe drives.other_values
+unfolding drives.other_values
+other_values_safe = map_safe _ (pair_safe (skip_safe 58) (pair_safe number_safe (pair_safe (skip_safe 58) number_safe)))
+
+-- a number, or three with `:` between
+delay_value_safe : Safe drives.delay_value
+unfolding drives.delay_value
+delay_value_safe = map_safe _ (pair_safe number_safe (optional_safe _ other_values_safe))
+
+-- `( value , .. )`
+delay_values_safe : Safe drives.delay_values
+unfolding drives.delay_values
+delay_values_safe = map_safe _ (pair_safe (skip_safe 40) (pair_safe (separated_safe delay_value_safe) (skip_safe 41)))
+
+-- `# number` or `# ( value , .. )`
+delay_spec_safe : Safe drives.delay_spec
+unfolding drives.delay_spec
+delay_spec_safe = map_safe _ (pair_safe (mark_safe 35) (choice_safe _ (map_safe _ number_safe) delay_values_safe))
+
+-- ---- declarations and assignments
+
+-- a type of nets
+net_type_safe : Safe declare.net_type
+unfolding declare.net_type
+net_type_safe = map_safe _ (token_safe words.net_type_in refl)
+
+-- a word before a range
+spread_named_safe : Safe declare.spread_named
+unfolding declare.spread_named
+spread_named_safe = map_safe _ (token_safe words.spread_in refl)
+
+-- `dir [ nettype ] [ range ] Name , .. ;`
+port_decl_safe : Safe declare.port_decl
+unfolding declare.port_decl
+port_decl_safe = map_safe _ (pair_safe (token_safe words.direction_in refl)
+    (pair_safe (optional_safe _ net_type_safe) (pair_safe (optional_safe _ range_safe) (pair_safe (separated_safe name_safe) (skip_safe 59)))))
+
+-- a range, with a word before it or without one
+spread_safe : Safe declare.spread
+unfolding declare.spread
+spread_safe = map_safe _ (pair_safe (optional_safe _ spread_named_safe) range_safe)
+
+-- `Name = expr`
+valued_name_safe : Safe declare.valued_name
+unfolding declare.valued_name
+valued_name_safe = map_safe _ (pair_safe name_safe (pair_safe (skip_safe 61) expr_safe))
+
+-- names alone, or names with values
+declared_safe : Safe declare.declared
+unfolding declare.declared
+declared_safe = choice_safe _ (map_safe _ (separated_safe valued_name_safe)) (map_safe _ (separated_safe name_safe))
+
+-- `nettype [ drive ] [ spread ] [ delay ] declared ;`
+net_decl_safe : Safe declare.net_decl
+unfolding declare.net_decl
+net_decl_safe = map_safe _ (pair_safe (token_safe words.net_type_in refl)
+    (pair_safe (optional_safe _ drive_safe) (pair_safe (optional_safe _ spread_safe) (pair_safe (optional_safe _ delay_spec_safe) (pair_safe declared_safe (skip_safe 59))))))
+
+-- `trireg [ charge ] [ spread ] [ delay ] Name , .. ;`
+trireg_decl_safe : Safe declare.trireg_decl
+unfolding declare.trireg_decl
+trireg_decl_safe = map_safe _ (pair_safe (word_safe (codes "trireg"))
+    (pair_safe (optional_safe _ charge_safe) (pair_safe (optional_safe _ spread_safe) (pair_safe (optional_safe _ delay_spec_safe) (pair_safe (separated_safe name_safe) (skip_safe 59))))))
+
+-- `target = expr`
+assigned_pair_safe : Safe declare.pair
+unfolding declare.pair
+assigned_pair_safe = map_safe _ (pair_safe target_safe (pair_safe (skip_safe 61) expr_safe))
+
+-- `assign [ drive ] [ delay ] pair , .. ;`
+assign_item_safe : Safe declare.assign_item
+unfolding declare.assign_item
+assign_item_safe = map_safe _ (pair_safe (word_safe (codes "assign"))
+    (pair_safe (optional_safe _ drive_safe) (pair_safe (optional_safe _ delay_spec_safe) (pair_safe (separated_safe assigned_pair_safe) (skip_safe 59)))))
+
+-- ---- gates, switches and instances
+
+-- `[ Name ] ( expr , .. )`
+terms_safe : Safe gate.terms
+unfolding gate.terms
+terms_safe = map_safe _ (pair_safe (optional_safe _ name_safe) (pair_safe (mark_safe 40) (pair_safe (separated_safe expr_safe) (skip_safe 41))))
+
+-- `logic [ drive ] [ delay ] terms , .. ;`
+logic_item_safe : Safe gate.logic_item
+unfolding gate.logic_item
+logic_item_safe = map_safe _ (pair_safe (token_safe words.logic_in refl)
+    (pair_safe (optional_safe _ drive_safe) (pair_safe (optional_safe _ delay_spec_safe) (pair_safe (separated_safe terms_safe) (skip_safe 59)))))
+
+-- `switch [ delay ] terms , .. ;`
+switch_item_safe : Safe gate.switch_item
+unfolding gate.switch_item
+switch_item_safe = map_safe _ (pair_safe (token_safe words.switch_in refl) (pair_safe (optional_safe _ delay_spec_safe) (pair_safe (separated_safe terms_safe) (skip_safe 59))))
+
+-- `tran terms , .. ;`
+tran_item_safe : Safe gate.tran_item
+unfolding gate.tran_item
+tran_item_safe = map_safe _ (pair_safe (token_safe words.tran_in refl) (pair_safe (separated_safe terms_safe) (skip_safe 59)))
+
+-- `pull [ ( level [ , level ] ) ] terms , .. ;`
+pull_item_safe : Safe gate.pull_item
+unfolding gate.pull_item
+pull_item_safe = map_safe _ (pair_safe (token_safe words.pull_in refl) (pair_safe (optional_safe _ pull_levels_safe) (pair_safe (separated_safe terms_safe) (skip_safe 59))))
+
+-- `. Name ( [ expr ] )`
+connection_safe : Safe gate.connection
+unfolding gate.connection
+connection_safe = map_safe _ (pair_safe (mark_safe 46) (pair_safe name_safe (pair_safe (skip_safe 40) (pair_safe (optional_safe _ expr_safe) (skip_safe 41)))))
+
+-- connections by name, or by place
+connections_safe : Safe gate.connections
+unfolding gate.connections
+connections_safe = choice_safe _ (map_safe _ (separated_safe connection_safe)) (map_safe _ (separated_safe (optional_safe _ expr_safe)))
+
+-- `[ Name ] ( connections )`
+inst_safe : Safe gate.inst
+unfolding gate.inst
+inst_safe = map_safe _ (pair_safe (optional_safe _ name_safe) (pair_safe (mark_safe 40) (pair_safe connections_safe (skip_safe 41))))
+
+-- `Name [ drive ] [ delay ] inst , .. ;`
+instance_safe : Safe gate.instance
+unfolding gate.instance
+instance_safe = map_safe _ (pair_safe name_safe
+    (pair_safe (optional_safe _ drive_safe) (pair_safe (optional_safe _ delay_spec_safe) (pair_safe (separated_safe inst_safe) (skip_safe 59)))))
+
+-- ---- modules
+
+-- pull gates or instances
+pulls_safe : Safe modules.pulls
+unfolding modules.pulls
+pulls_safe = choice_safe _ (map_safe _ pull_item_safe) (map_safe _ instance_safe)
+
+-- pass gates or what comes later
+trans_safe : Safe modules.trans
+unfolding modules.trans
+trans_safe = choice_safe _ (map_safe _ tran_item_safe) pulls_safe
+
+-- switches or what comes later
+switches_safe : Safe modules.switches
+unfolding modules.switches
+switches_safe = choice_safe _ (map_safe _ switch_item_safe) trans_safe
+
+-- logic gates or what comes later
+gates_safe : Safe modules.gates
+unfolding modules.gates
+gates_safe = choice_safe _ (map_safe _ logic_item_safe) switches_safe
+
+-- assignments, gates or instances
+assigned_safe : Safe modules.assigned
+unfolding modules.assigned
+assigned_safe = choice_safe _ (map_safe _ assign_item_safe) gates_safe
+
+-- trireg nets or what comes later
+charged_safe : Safe modules.charged
+unfolding modules.charged
+charged_safe = choice_safe _ (map_safe _ trireg_decl_safe) assigned_safe
+
+-- nets or what comes later
+nets_safe : Safe modules.nets
+unfolding modules.nets
+nets_safe = choice_safe _ (map_safe _ net_decl_safe) charged_safe
+
+-- an item of a module
+module_item_safe : Safe modules.module_item
+unfolding modules.module_item
+module_item_safe = choice_safe _ (map_safe _ port_decl_safe) nets_safe
+
+-- `dir [ nettype ] [ range ] Name`
+ansi_port_safe : Safe modules.ansi_port
+unfolding modules.ansi_port
+ansi_port_safe = map_safe _ (pair_safe (token_safe words.direction_in refl) (pair_safe (optional_safe _ net_type_safe) (pair_safe (optional_safe _ range_safe) name_safe)))
+
+-- a port, or a name alone
+ansi_entry_safe : Safe modules.ansi_entry
+unfolding modules.ansi_entry
+ansi_entry_safe = choice_safe _ (map_safe _ name_safe) (map_safe _ ansi_port_safe)
+
+-- `( )`
+empty_ports_safe : Safe modules.empty_ports
+unfolding modules.empty_ports
+empty_ports_safe = map_safe _ (pair_safe (skip_safe 40) (skip_safe 41))
+
+-- `( Name , .. )`
+named_ports_safe : Safe modules.named_ports
+unfolding modules.named_ports
+named_ports_safe = map_safe _ (pair_safe (skip_safe 40) (pair_safe (separated_safe name_safe) (skip_safe 41)))
+
+-- `( port , .. )`
+ansi_ports_safe : Safe modules.ansi_ports
+unfolding modules.ansi_ports
+ansi_ports_safe = map_safe _ (pair_safe (skip_safe 40) (pair_safe ansi_port_safe (pair_safe (commas_safe ansi_entry_safe []) (skip_safe 41))))
+
+-- the ports of a header, in parentheses
+ports_within_safe : Safe modules.ports_within
+unfolding modules.ports_within
+ports_within_safe = choice_safe _ empty_ports_safe (choice_safe _ named_ports_safe ansi_ports_safe)
+
+-- the ports of a header
+header_ports_safe : Safe modules.header_ports
+unfolding modules.header_ports
+header_ports_safe = choice_safe _ ports_within_safe (pure_safe _)
+
+-- `module Name [ ports ] ; { item } endmodule`
+module_at_safe : Safe modules.module_at
+unfolding modules.module_at
+module_at_safe = map_safe _ (pair_safe (token_safe words.opening_in refl)
+    (pair_safe name_safe (pair_safe header_ports_safe (pair_safe (skip_safe 59) (pair_safe (many_safe _ module_item_safe) (skip_word_safe (codes "endmodule")))))))
+
+-- ---- the end of the text
+
+-- what is refused is a token of the list
+abbrev IsRefused : {A : Type 0} → List ℕ → List Token → Outcome A → Type 0
+IsRefused text all (Ok p) = Unit {0}
+IsRefused text all (Err e) = IsRefusalOf text all e
+
+-- what is read, seen by a function, is refused as it is
+refused_map : {A B : Type 0} (text : List ℕ) (all : List Token) (outcome : Outcome A) (make : A → B) → IsRefused text all outcome → IsRefused text all (and_then outcome (λ x. pure (make x)))
+refused_map text all (Ok p) make is = tt
+refused_map text all (Err e) make is = is
+
+-- what follows an outcome is refused as a token of the list
+refused_then : {A B : Type 0} (text : List ℕ) (all : List Token) (outcome : Outcome A) (f : A → Reader B) → IsSafe text all outcome → ((x : A) (j : Input) → IsWithin text all j → IsRefused text all (f x j))
+    → IsRefused text all (and_then outcome f)
+refused_then text all (Ok p) f is others = others p.0 p.1 is
+refused_then text all (Err e) f is others = is
+
+-- a token is refused as one of the list
+token_refused : {A : Type 0} (text : List ℕ) (all : List Token) (i : Input) (o : Option A) → IsWithin text all i → IsRefused text all (token_by o i)
+token_refused text all i None within = refused text all i within
+token_refused text all i (Some x) within = tt
+
+-- where the text doesn't end a token of the list is refused
+finish_refused : (text : List ℕ) (all : List Token) (i : Input) → IsWithin text all i → IsRefused text all (input.finish i)
+unfolding input.finish
+finish_refused text all i within = refused_map text all (token (λ f. where_true (is_finish f)) i) (λ p. p.0) (token_refused text all i (where_true (is_finish (front i))) within)
+
+-- where modules are refused it is at a token of the list
+modules_refused : (text : List ℕ) (all : List Token) (i : Input) → IsWithin text all i → IsRefused text all (modules.modules i)
+unfolding modules.modules
+modules_refused text all i within =
+    refused_map text all ((many is_finish modules.module_at & input.finish) i) (λ z. z.0)
+    (refused_then text all (many is_finish modules.module_at i) (λ x. (λ y. (x, y)) <$> input.finish) ((many_safe is_finish module_at_safe).safe text all i within)
+    (λ x j is. refused_map text all (input.finish j) (λ y. (x, y)) (finish_refused text all j is)))
+
+-- an outcome that is an error is refused
+refused_err : {A : Type 0} (text : List ℕ) (all : List Token) (outcome : Outcome A) (e : ParseFault) → outcome ≡ Err e → IsRefused text all outcome → IsRefusalOf text all e
+refused_err {A} text all outcome e is refused = subst (λ (o : Outcome A). IsRefused text all o) is refused
+
+-- all tokens of a text are within the list
+all_within : (text : List ℕ) (tokens : List Token) → AreTokensOf text tokens → IsWithin text tokens (whole text tokens)
+all_within text tokens are = record { same = refl; left = refl; ended = ended_of text tokens (are_sound text tokens are) }
+
+-- what is answered as a fault, but want of memory, is a token of the list
+pub refused_of : (text : List ℕ) (tokens : List Token) (answer : Result (List Module) ParseFault) → AreTokensOf text tokens → GivesModules (modules_of text tokens) answer
+    → IfErr answer (λ fault. IsRefusalOf text tokens fault)
+refused_of text tokens (Ok found) are gives = tt
+refused_of text tokens (Err Memory) are gives = tt
+refused_of text tokens (Err (Unsupported n)) are gives =
+    refused_err text tokens (modules_of text tokens) (Unsupported n) (gives (λ e. cc)) (modules_refused text tokens (whole text tokens) (all_within text tokens are))
+refused_of text tokens (Err (Syntax n)) are gives =
+    refused_err text tokens (modules_of text tokens) (Syntax n) (gives (λ e. cc)) (modules_refused text tokens (whole text tokens) (all_within text tokens are))
