@@ -1,9 +1,9 @@
-ghost use Rattle.std.specs.Prelude.{◌≤◌, IfOk, length};
+ghost use Rattle.std.specs.Prelude.{◌≤◌, IfErr, IfOk, length};
 ghost use Rattle.v_lexer.specs.Reading.{AreTokensOf};
 ghost use Rattle.v_tree.specs.declared.modules.File.{File};
 ghost use Rattle.v_tree.specs.Fit.{AreFit, IsFitModule};
 ghost use Rattle.v_tree.specs.Tree.{IsTreeOf};
-ghost use Rattle.v_parser.specs.Reading.{Gives, GivesModules, IsUnlessMemory, modules_of};
+ghost use Rattle.v_parser.specs.Reading.{Gives, GivesModules, IsRefusalOf, IsUnlessMemory, modules_of};
 
 use crate::cursor::Cursor;
 use crate::fault::ParseFault;
@@ -19,6 +19,7 @@ fn read_modules(alloc: Global, text: &[u8], tokens: &[Token]) -> Result<ModuleLi
     requires tokens { AreTokensOf text.now tokens.now }
     ensures exact { GivesModules (modules_of text.now tokens.now) result }
     ensures fit { IfOk result (λ found. AreFit IsFitModule found) }
+    ensures refused { IfErr result (λ fault. IsRefusalOf text.now tokens.now fault) }
 {
     let mut cursor = Cursor::new(alloc, text, tokens);
     modules(&mut cursor)
@@ -38,6 +39,9 @@ pub fn parse(alloc: Global, text: &[u8], tokens: &TokenList) -> Result<File, Par
     // Where a tree is written with them it is the one that is answered: so there is no other, and a
     // list that is refused is that of none.
     ensures only { (file : File) → IsTreeOf text.now tokens.now file → IsUnlessMemory file result }
+    // The refused token is one of the list, as unsupported exactly where the grammar leaves such a
+    // token out.
+    ensures refused { IfErr result (λ fault. IsRefusalOf text.now tokens.now fault) }
 {
     match read_modules(alloc, text, tokens.as_slice()) {
         Ok(modules) => Ok(File {
