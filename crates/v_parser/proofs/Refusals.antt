@@ -24,13 +24,13 @@ use Rattle.v_parser.proofs.Source.{ended_of}
 
 -- ---- where reading stands
 
--- what is left to read is the end of a list of tokens of a text
+-- what is left to read is the last part of a list of tokens of a text
 pub record IsWithin (text : List ℕ) (all : List Token) (i : Input) : Type 0 where
   pub same : i.text ≡ text
   pub left : drop i.number all ≡ i.tokens
   pub ended : AreEnded i.tokens
 
--- what was read leaves an end of the list, and what is refused is a token of it
+-- what was read leaves a last part of the list, and what is refused is a token of it
 abbrev pub IsSafe : {A : Type 0} → List ℕ → List Token → Outcome A → Type 0
 IsSafe text all (Ok p) = IsWithin text all p.1
 IsSafe text all (Err e) = IsRefusalOf text all e
@@ -73,7 +73,7 @@ end_form : (text : List ℕ) (token : Token) → token.kind ≡ End → form_of 
 unfolding form_of
 end_form text token is = ap (λ k. form_by k (slice_of text token)) is
 
--- what is left after the first token is an end of the list, where that token isn't the end of the text
+-- what is left after the first token is a last part of the list, where that token isn't the end of the text
 next_within : (text : List ℕ) (all : List Token) (number : ℕ) (tokens : List Token) → drop number all ≡ tokens → AreEnded tokens → front_in text tokens ≢ form.End → IsWithin text all (next_in text number tokens)
 next_within text all number [] is ended more = absurd ended
 next_within text all number (token ∷ []) is ended more = absurd (more (end_form text token ended))
@@ -83,7 +83,7 @@ next_within text all number (token ∷ other ∷ tokens) is ended more = record 
   ended = ended.1;
 }
 
--- what is left after the next token is an end of the list, where that token isn't the end of the text
+-- what is left after the next token is a last part of the list, where that token isn't the end of the text
 goes_on : (text : List ℕ) (all : List Token) (i : Input) → IsWithin text all i → front i ≢ form.End → IsWithin text all (next i)
 unfolding front next
 goes_on text all i within more = subst (λ (t : List ℕ). IsWithin t all (next i)) within.same (next_within i.text all i.number i.tokens within.left within.ended more)
