@@ -15,3 +15,4 @@ pub mod UdpRules
 pub mod DescriptionRules
 pub mod Source
 pub mod Whole
+pub mod Refusals

@@ -1,14 +1,15 @@
 -- What `parse` answers.
-use Rattle.std.specs.Prelude.{◌≡◌, ◌≢◌, ℕ, List, Result, Ok, Err}
+use Rattle.std.specs.Prelude.{◌≡◌, ◌≢◌, ℕ, true, false, List, slice_get, Some, Result, Ok, Err}
 use Rattle.v_lexer.specs.declared.token.Token.{Token}
 use Rattle.v_tree.specs.declared.modules.Module.{Module}
 use Rattle.v_tree.specs.declared.modules.Description.{Description}
 use Rattle.v_tree.specs.declared.modules.File.{File}
 use Rattle.v_tree.specs.declared.primitives.UdpDecl.{UdpDecl}
 use Rattle.v_tree.specs.Tree.{modules_among, udps_among}
+use Rattle.v_tree.specs.Written.{slice_of}
 use Rattle.v_parser.specs.declared.fault.ParseFault.{ParseFault}
-use Rattle.v_parser.specs.declared.fault.ParseFault.TheVariants.{Memory}
-use Rattle.v_parser.specs.Input.{Input, Outcome}
+use Rattle.v_parser.specs.declared.fault.ParseFault.TheVariants.{Unsupported, Syntax, Memory}
+use Rattle.v_parser.specs.Input.{Input, Outcome, is_left_out}
 use Rattle.v_parser.specs.Descriptions.{descriptions}
 
 -- all tokens of a text
@@ -50,3 +51,9 @@ pub record IsSameFile (a b : File) : Type 0 where
 abbrev pub IsUnlessMemory : File → Result File ParseFault → Type 0
 IsUnlessMemory tree (Ok found) = IsSameFile found tree
 IsUnlessMemory tree (Err e) = e ≡ Memory
+
+-- the refused token is one of the list: as unsupported exactly where the grammar leaves such a token out
+abbrev pub IsRefusalOf : List ℕ → List Token → ParseFault → Type 0
+IsRefusalOf text tokens (Unsupported n) = (token : Token) × (slice_get tokens n ≡ Some token) × (is_left_out token.kind (slice_of text token) ≡ true)
+IsRefusalOf text tokens (Syntax n) = (token : Token) × (slice_get tokens n ≡ Some token) × (is_left_out token.kind (slice_of text token) ≡ false)
+IsRefusalOf text tokens Memory = Unit {0}

@@ -1,9 +1,9 @@
-ghost use Rattle.std.specs.Prelude.{◌≤◌, IfOk, length};
+ghost use Rattle.std.specs.Prelude.{◌≤◌, IfErr, IfOk, length};
 ghost use Rattle.v_lexer.specs.Reading.{AreTokensOf};
 ghost use Rattle.v_tree.specs.declared.modules.File.{File};
 ghost use Rattle.v_tree.specs.Fit.{AreFitLists};
 ghost use Rattle.v_tree.specs.Tree.{IsTreeOf};
-ghost use Rattle.v_parser.specs.Reading.{Gives, GivesLists, IsUnlessMemory, descriptions_of};
+ghost use Rattle.v_parser.specs.Reading.{Gives, GivesLists, IsRefusalOf, IsUnlessMemory, descriptions_of};
 
 use crate::cursor::Cursor;
 use crate::descriptions::descriptions;
@@ -22,6 +22,7 @@ fn read_lists(
     requires tokens { AreTokensOf text.now tokens.now }
     ensures exact { GivesLists (descriptions_of text.now tokens.now) result }
     ensures fit { IfOk result (λ lists. AreFitLists lists.0 lists.1) }
+    ensures refused { IfErr result (λ fault. IsRefusalOf text.now tokens.now fault) }
 {
     let mut cursor = Cursor::new(alloc, text, tokens);
     descriptions(&mut cursor)
@@ -41,6 +42,9 @@ pub fn parse(alloc: Global, text: &[u8], tokens: &TokenList) -> Result<File, Par
     // Where a tree is written with them it is the one that is answered: so there is no other, and a
     // list that is refused is that of none.
     ensures only { (file : File) → IsTreeOf text.now tokens.now file → IsUnlessMemory file result }
+    // The refused token is one of the list, as unsupported exactly where the grammar leaves such a
+    // token out.
+    ensures refused { IfErr result (λ fault. IsRefusalOf text.now tokens.now fault) }
 {
     match read_lists(alloc, text, tokens.as_slice()) {
         Ok(lists) => {

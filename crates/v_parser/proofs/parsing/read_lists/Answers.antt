@@ -1,6 +1,7 @@
 use Rattle.std.proofs.Common.{arith, length, ◌+◌, ◌≤◌}
 use Rattle.v_parser.specs.Reading.{descriptions_of, GivesLists}
 use Rattle.v_parser.proofs.Source.{tokens_few}
+use Rattle.v_parser.proofs.Refusals.{refused_of}
 use Rattle.v_parser.proofs.Whole.{gives_of, fit_of}
 use Rattle.v_parser.proofs.parsing.read_lists.Goals as goal
 
@@ -17,3 +18,6 @@ returns-clause-exact c = gives c
 
 pub returns-clause-fit : goal.returns-clause-fit
 returns-clause-fit c = fit_of c.args.text.now c.args.tokens.now c.descriptions.result c.requires.small c.requires.tokens (gives c)
+
+pub returns-clause-refused : goal.returns-clause-refused
+returns-clause-refused c = refused_of c.args.text.now c.args.tokens.now c.descriptions.result c.requires.tokens (gives c)
