@@ -1,4 +1,4 @@
--- What stands among names when one more was added, unless it was there.
+-- The words of a text, and what stands among names when they were added, each unless it was there.
 use Rattle.std.proofs.Common.{◌≡◌, ℕ, suc, ◌+◌, ◌<◌, Bool, true, false, not, ◌||◌, eqb, List, [], ◌∷◌, ◌++◌, length, take, drop, if◌then◌else◌, refl, sym, ap, ◌∙◌, arith, inl, inr}
 use Rattle.std.specs.List.{prefix_len}
 use Rattle.std.proofs.lemmas.Bool.{cases_Bool, not-false}
@@ -52,20 +52,30 @@ words_of-some byte (next ∷ bytes) =
       | inr e ↦ rw (e, one, two) (ap (onto byte) (words_of-some next bytes))
     ]
 
-first_word : (rest : List ℕ) (len : ℕ) → 0 < length rest → len ≡ prefix_len is_in_word rest → words_of rest ≡ take len rest ∷ words_of (drop (len + 1) rest)
+pub first_word : (rest : List ℕ) (len : ℕ) → 0 < length rest → len ≡ prefix_len is_in_word rest → words_of rest ≡ take len rest ∷ words_of (drop (len + 1) rest)
 first_word [] len some is = absurd (omega arith)
 first_word (byte ∷ bytes) len some is = rw is (words_of-some byte bytes)
 
--- a loop that puts the first of the others into a table
-pub words_go_on : (name : List ℕ) (rest word after : List ℕ) (len : ℕ) (names new : List (List ℕ)) (added all : Bool) → 0 < length rest → len ≡ prefix_len is_in_word rest
-    → word ≡ take len rest → after ≡ drop (len + 1) rest → added ≡ not (is_among word names) → new ≡ (if added then names ++ word ∷ [] else names)
-    → (is_among name names || is_among name (words_of rest)) ≡ all → (is_among name new || is_among name (words_of after)) ≡ all
-words_go_on name rest word after len names new added all some len-is word-is after-is says is so_far =
-    let here : words_of rest ≡ word ∷ words_of after = first_word rest len some len-is ∙ rw (word-is, after-is) refl in
-    rw (is_among-added name word names new added says is) (or_group (is_among name names) (same_name name word) (is_among name (words_of after)) ∙ ap (λ ws. is_among name names || is_among name ws) (sym here) ∙ so_far)
-
--- where no word is left all are in the table
-pub words_done : (name rest : List ℕ) (names : List (List ℕ)) (all : Bool) → length rest ≡ 0 → (is_among name names || is_among name (words_of rest)) ≡ all → is_among name names ≡ all
+-- an empty text has no word
+pub no_words : (text : List ℕ) → length text ≡ 0 → words_of text ≡ []
 unfolding words_of
-words_done name [] names all none so_far = sym (or_none (is_among name names)) ∙ so_far
-words_done name (byte ∷ bytes) names all none so_far = absurd (omega arith)
+no_words [] none = refl
+no_words (byte ∷ bytes) none = absurd (omega arith)
+
+-- a loop that puts the first of the others into a table
+pub words_go_on : (name word : List ℕ) (names new words others : List (List ℕ)) (added all : Bool) → words ≡ word ∷ others → added ≡ not (is_among word names)
+    → new ≡ (if added then names ++ word ∷ [] else names) → (is_among name names || is_among name words) ≡ all → (is_among name new || is_among name others) ≡ all
+words_go_on name word names new words others added all here says is so_far =
+    rw (is_among-added name word names new added says is) (or_group (is_among name names) (same_name name word) (is_among name others) ∙ ap (λ ws. is_among name names || is_among name ws) (sym here) ∙ so_far)
+
+-- a name among the names of two lists
+is_among-append : (name : List ℕ) (names others : List (List ℕ)) → is_among name (names ++ others) ≡ (is_among name names || is_among name others)
+is_among-append name [] others = refl
+is_among-append name (other ∷ names) others =
+    ap (λ b. same_name name other || b) (is_among-append name names others) ∙ sym (or_group (same_name name other) (is_among name names) (is_among name others))
+
+-- a table to which two lists were added has their names
+pub both_added : (name : List ℕ) (none names new first second : List (List ℕ)) → none ≡ [] → is_among name names ≡ (is_among name none || is_among name first)
+    → is_among name new ≡ (is_among name names || is_among name second) → is_among name new ≡ is_among name (first ++ second)
+both_added name none names new first second empty one two =
+    two ∙ ap (λ b. b || is_among name second) (one ∙ ap (λ ns. is_among name ns || is_among name first) empty) ∙ sym (is_among-append name first second)

@@ -8,6 +8,8 @@ pub mod Whole
 pub mod Digits
 pub mod Pieces
 pub mod Cuts
+pub mod Within
+pub mod Found
 pub mod Meanings
 pub mod Shapes
 pub mod Sound

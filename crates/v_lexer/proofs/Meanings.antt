@@ -23,7 +23,7 @@ use Rattle.v_lexer.specs.Quoted.{text_len}
 use Rattle.v_lexer.specs.Gaps.{comment_len, attribute_len}
 use Rattle.v_lexer.specs.Numbers.{decimal_value, decimal_len, exponent_len}
 use Rattle.v_lexer.specs.Literals.{Form, form_at, holds, size_holds, digits_hold, value_holds, filler, fit, binary, bits_of, bits_in, is_single, bit_at}
-use Rattle.v_lexer.specs.Words.{is_reserved, reserved, words_of}
+use Rattle.v_lexer.specs.Words.{is_reserved, reserved, grammar_words, words_of}
 use Rattle.v_lexer.specs.Places.{Found, ended, mark_at, slash_at, open_at, quote_at, escaped_at, directive_at, name_at, literal_with, literal_at, exponent_at, quote_place, whole_at, number_at, plain_at, is_symbol, is_table_end, row_at, place_at}
 use Rattle.v_lexer.specs.Values.{name_text, width_of, meaning, literal_of}
 use Rattle.v_lexer.specs.Sound.{IsVisible, HasBits}
@@ -334,7 +334,7 @@ plain_says bytes =
     mark_says bytes)))))))))
 
 pub endtable_is_reserved : is_reserved (codes "endtable") ≡ true
-unfolding is_reserved reserved words_of
+unfolding is_reserved reserved grammar_words words_of
 endtable_is_reserved = refl
 
 table_end_is_reserved : (bytes : List ℕ) → is_table_end bytes ≡ true → is_reserved (take 8 bytes) ≡ true

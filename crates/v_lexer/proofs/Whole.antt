@@ -65,7 +65,7 @@ fails kind.OpenComment line all h = h
 fails kind.OpenString line all h = h
 fails kind.BadNumber line all h = h
 
-front_fails : (rest : List ℕ) (table : Bool) (at line : ℕ) (wrong : FaultKind) → 0 < length rest → place_at table rest ≡ Err wrong → tokens_from 0 table at line rest ≡ Err (fault_at wrong line)
+pub front_fails : (rest : List ℕ) (table : Bool) (at line : ℕ) (wrong : FaultKind) → 0 < length rest → place_at table rest ≡ Err wrong → tokens_from 0 table at line rest ≡ Err (fault_at wrong line)
 unfolding tokens_from found_at
 front_fails [] table at line wrong some found = absurd (omega arith)
 front_fails (byte ∷ bytes) table at line wrong some found = rw found refl

@@ -1,8 +1,9 @@
-ghost use Rattle.std.specs.Prelude.{ℕ, false, drop, ◌≡◌, ◌≤◌, ◌<◌, ◌+◌, ◌^◌, ◌++◌, List, length, Ok, OnOk, IfOk, IfErr};
+ghost use Rattle.std.specs.Prelude.{ℕ, false, drop, ◌≡◌, ◌≤◌, ◌<◌, ◌+◌, ◌^◌, ◌++◌, List, length, Ok, Err, OnOk, IfOk, IfErr};
+ghost use Rattle.v_lexer.specs.declared.fault.FaultKind.{FaultKind};
 ghost use Rattle.v_lexer.specs.declared.fault.LexFault.TheVariants.{Memory};
 ghost use Rattle.v_lexer.specs.declared.token.Token.{Token};
 ghost use Rattle.v_lexer.specs.declared.token.Piece.{Piece};
-ghost use Rattle.v_lexer.specs.Reading.{Stands, AreTokensOf, IsFaultOf, Rise};
+ghost use Rattle.v_lexer.specs.Reading.{Stands, AreTokensOf, IsFaultOf, StopsAt, Rise};
 ghost use Rattle.v_lexer.specs.Forms.{IsLongest};
 ghost use Rattle.v_lexer.specs.Sound.{AreSound};
 ghost use Rattle.v_lexer.specs.Tokens.{given, fault_at, lines_after, tokens_of, Gives};
@@ -11,7 +12,7 @@ use crate::fault::{FaultKind, LexFault};
 use crate::lists::TokenList;
 use crate::places::{place_at, table_after};
 use crate::token::{Piece, Token, TokenKind};
-use crate::words::Words;
+use crate::words::ReservedWords;
 use std::alloc::Global;
 
 /// The fault at a line.
@@ -64,15 +65,13 @@ fn push_given(tokens: &mut Vec<Token>, piece: Piece, at: u32, line: u32) -> Resu
     }
 }
 
-/// The tokens of a text, or its first lexical fault, with the pieces that show it.
+/// The tokens of a text, or its first lexical fault.
 #[tactic(auto, unfolding(crate::specs::Tokens::tokens_of))]
 fn lexed(alloc: Global, text: &[u8]) -> Result<TokenList, LexFault>
     requires { length text.now ≤ 67108864 }
-    ensures exact { Gives (λ tokens. tokens) result (tokens_of text.now) }
-    ensures found { IfOk result (λ tokens. AreTokensOf text.now tokens) }
-    ensures fault { IfErr result (λ fault. IsFaultOf text.now fault) }
+    ensures { Gives (λ tokens. tokens) result (tokens_of text.now) }
 {
-    let words = Words::new(alloc)?;
+    let words = ReservedWords::new(alloc)?;
     let mut tokens = Vec::new(alloc);
     let mut rest = text;
     let mut at: u32 = 0;
@@ -120,6 +119,8 @@ pub fn tokens(alloc: Global, text: &[u8]) -> Result<TokenList, LexFault>
     ensures longest { (at : ℕ) (piece : Piece) → Stands text.now false at piece → IsLongest (drop at text.now) piece.len }
     // The fault is the first, and has its line.
     ensures fault { IfErr result (λ fault. IsFaultOf text.now fault) }
+    // Where the text has a first lexical fault, that is what is answered, unless memory runs out.
+    ensures fault_only { (wrong : FaultKind) (line : ℕ) → StopsAt text.now wrong line → Gives (λ tokens. tokens) result (Err (fault_at wrong line)) }
 {
     lexed(alloc, text)
 }

@@ -22,3 +22,4 @@ pub use lists::{BitList, TokenList};
 pub use literals::{Base, Bit};
 pub use token::{Token, TokenKind};
 pub use values::{Literal, is_literal, literal_value, name_text, number_value};
+pub use words::{ReservedWords, is_left_out_word};

@@ -13,7 +13,7 @@ use crate::literals::{form_at, holds};
 use crate::numbers::{decimal_len, exponent_len, small_value};
 use crate::quoted::text_len;
 use crate::token::{Piece, TokenKind};
-use crate::words::Words;
+use crate::words::ReservedWords;
 
 fn token(kind: TokenKind, len: usize) -> Result<Piece, FaultKind>
     ensures { result ≡ Ok (record { kind = Some kind; len = len }) }
@@ -121,7 +121,7 @@ fn directive_at(text: &[u8]) -> Result<Piece, FaultKind>
 }
 
 #[tactic(auto, using(crate::proofs::Fronts::fronts), unfolding(crate::specs::Places::name_at))]
-fn name_at(words: &Words, text: &[u8]) -> Result<Piece, FaultKind>
+fn name_at(words: &ReservedWords, text: &[u8]) -> Result<Piece, FaultKind>
     requires { IsTrue (is_letter (first text.now)) }
     ensures at { result ≡ name_at text.now }
     ensures within { IfOk result (λ piece. (0 < piece.len) × (piece.len ≤ length text.now)) }
@@ -207,7 +207,7 @@ fn number_at(text: &[u8]) -> Result<Piece, FaultKind>
 
 /// What stands at the front of a text outside tables.
 #[tactic(auto, using(crate::proofs::Fronts::fronts), unfolding(crate::specs::Places::plain_at))]
-fn plain_at(words: &Words, text: &[u8]) -> Result<Piece, FaultKind>
+fn plain_at(words: &ReservedWords, text: &[u8]) -> Result<Piece, FaultKind>
     requires { 0 < length text.now }
     ensures at { result ≡ plain_at text.now }
     ensures within { IfOk result (λ piece. (0 < piece.len) × (piece.len ≤ length text.now)) }
@@ -278,7 +278,7 @@ fn row_at(text: &[u8]) -> Result<Piece, FaultKind>
 
 /// What stands at the front of a text, inside a table or outside.
 #[tactic(auto, unfolding(crate::specs::Places::place_at))]
-pub fn place_at(words: &Words, table: bool, text: &[u8]) -> Result<Piece, FaultKind>
+pub fn place_at(words: &ReservedWords, table: bool, text: &[u8]) -> Result<Piece, FaultKind>
     requires { 0 < length text.now }
     ensures at { result ≡ place_at table text.now }
     ensures within { IfOk result (λ piece. (0 < piece.len) × (piece.len ≤ length text.now)) }

@@ -1,7 +1,5 @@
-use Rattle.std.proofs.Common.{◌≡◌, ◌+◌, ◌≤◌, length, drop}
+use Rattle.std.proofs.Common.{◌≡◌, ◌+◌, ◌≤◌, length}
 use Rattle.v_lexer.specs.Tokens.{onto, tokens_from, tokens_of}
-use Rattle.v_lexer.specs.Reading.{line_of}
-use Rattle.v_lexer.proofs.Pieces.{Completes, Carries}
 use Rattle.v_lexer.proofs.lexer.lexed.Given as goal
 
 abbrev pub invariant-loop-rest : goal.invariant-loop-rest
@@ -9,10 +7,6 @@ invariant-loop-rest l = record {
   so_far : onto l.tokens.items (tokens_from 0 l.table l.at l.line l.rest) ≡ tokens_of l.text;
   place : l.at + length l.rest ≡ length l.text;
   line : l.line ≤ l.at + 1;
-  rest_is : l.rest ≡ drop l.at l.text;
-  line_is : l.line ≡ line_of l.text l.at;
-  completes : Completes l.text l.table l.at l.tokens.items;
-  carries : Carries l.text l.table l.at;
 }
 
 abbrev pub decreases-loop-rest : goal.decreases-loop-rest
