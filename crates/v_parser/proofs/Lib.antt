@@ -1,4 +1,3 @@
-pub mod WordLists
 pub mod Turns
 pub mod Sorting
 pub mod Nested
@@ -14,5 +13,6 @@ pub mod RowRules
 pub mod UdpRules
 pub mod DescriptionRules
 pub mod Source
-pub mod Whole
 pub mod Refusals
+pub mod Laws
+pub mod Whole

@@ -1,12 +1,10 @@
 -- What is refused is a token of the list.
-use Rattle.std.proofs.Common.{◌≡◌, ◌≢◌, ℕ, zero, suc, Bool, true, false, List, [], ◌∷◌, ◌++◌, length, drop, codes, Option, Some, None, Result, Ok, Err, if◌then◌else◌, refl, ap, subst, ◌∙◌, add-one}
-use Rattle.std.specs.Prelude.{slice_get, IfErr}
+use Rattle.std.proofs.Common.{◌≡◌, ◌≢◌, ℕ, zero, suc, Bool, true, false, List, [], ◌∷◌, ◌++◌, length, drop, codes, Option, Some, None, Ok, Err, if◌then◌else◌, refl, ap, subst, ◌∙◌, add-one}
+use Rattle.std.specs.Prelude.{slice_get}
 use Rattle.v_lexer.specs.declared.token.Token.{Token}
 use Rattle.v_lexer.specs.declared.token.TokenKind.TheVariants.{End}
 use Rattle.v_lexer.specs.Reading.{AreTokensOf}
 use Rattle.v_lexer.proofs.Sound.{are_sound}
-use Rattle.v_tree.specs.declared.modules.Module.{Module}
-use Rattle.v_tree.specs.declared.primitives.UdpDecl.{UdpDecl}
 use Rattle.v_tree.specs.Written.{Form, form_of, form_by, slice_of}
 use Rattle.v_tree.specs.Written as form
 use Rattle.v_parser.specs.declared.fault.ParseFault.{ParseFault}
@@ -21,7 +19,7 @@ use Rattle.v_parser.specs.Gates as gate
 use Rattle.v_parser.specs.Modules as modules
 use Rattle.v_parser.specs.Primitives as udp
 use Rattle.v_parser.specs.Descriptions as all_of
-use Rattle.v_parser.specs.Reading.{whole, descriptions_of, GivesLists, IsRefusalOf}
+use Rattle.v_parser.specs.Reading.{whole, descriptions_of, IsRefusalOf}
 use Rattle.v_parser.proofs.DescriptionRules.{AreEnded}
 use Rattle.v_parser.proofs.Source.{ended_of}
 
@@ -33,10 +31,14 @@ pub record IsWithin (text : List ℕ) (all : List Token) (i : Input) : Type 0 wh
   pub left : drop i.number all ≡ i.tokens
   pub ended : AreEnded i.tokens
 
+-- the fault is that of a token of the list, and no want of memory
+abbrev pub Refuses : List ℕ → List Token → ParseFault → Type 0
+Refuses text all e = (e ≢ Memory) × IsRefusalOf text all e
+
 -- what was read leaves a last part of the list, and what is refused is a token of it
 abbrev pub IsSafe : {A : Type 0} → List ℕ → List Token → Outcome A → Type 0
 IsSafe text all (Ok p) = IsWithin text all p.1
-IsSafe text all (Err e) = IsRefusalOf text all e
+IsSafe text all (Err e) = Refuses text all e
 
 -- a reader stays within the list, and refuses a token of it
 pub record Safe {A : Type 0} (read : Reader A) : Type 0 where
@@ -58,18 +60,18 @@ behind (first ∷ all) (suc number) token tokens e = behind all number token tok
 
 -- the refusal of the first of what is left is that of a token of the list
 refused_in : (text : List ℕ) (all : List Token) (number : ℕ) (tokens : List Token) → drop number all ≡ tokens → AreEnded tokens
-    → IsRefusalOf text all (refusal (record { text = text; tokens = tokens; number = number }))
+    → Refuses text all (refusal (record { text = text; tokens = tokens; number = number }))
 unfolding refusal
 refused_in text all number [] is ended = absurd ended
 refused_in text all number (token ∷ tokens) is ended = by (is_left_out token.kind (slice_of text token)) refl
   where
-    by : (b : Bool) → is_left_out token.kind (slice_of text token) ≡ b → IsRefusalOf text all (if b then Unsupported number else Syntax number)
-    by true e = (token, there all number token tokens is, e)
-    by false e = (token, there all number token tokens is, e)
+    by : (b : Bool) → is_left_out token.kind (slice_of text token) ≡ b → Refuses text all (if b then Unsupported number else Syntax number)
+    by true e = (λ memory. cc, (token, there all number token tokens is, e))
+    by false e = (λ memory. cc, (token, there all number token tokens is, e))
 
 -- the next token is one of the list where it is refused
-refused : (text : List ℕ) (all : List Token) (i : Input) → IsWithin text all i → IsRefusalOf text all (refusal i)
-refused text all i within = subst (λ (t : List ℕ). IsRefusalOf t all (refusal i)) within.same (refused_in i.text all i.number i.tokens within.left within.ended)
+refused : (text : List ℕ) (all : List Token) (i : Input) → IsWithin text all i → Refuses text all (refusal i)
+refused text all i within = subst (λ (t : List ℕ). Refuses t all (refusal i)) within.same (refused_in i.text all i.number i.tokens within.left within.ended)
 
 -- a token at the end of the text says so
 end_form : (text : List ℕ) (token : Token) → token.kind ≡ End → form_of text token ≡ form.End
@@ -677,7 +679,7 @@ description_safe = choice_safe _ (map_safe _ udp_safe) (map_safe _ module_at_saf
 -- what is refused is a token of the list
 abbrev IsRefused : {A : Type 0} → List ℕ → List Token → Outcome A → Type 0
 IsRefused text all (Ok p) = Unit {0}
-IsRefused text all (Err e) = IsRefusalOf text all e
+IsRefused text all (Err e) = Refuses text all e
 
 -- what is read, seen by a function, is refused as it is
 refused_map : {A B : Type 0} (text : List ℕ) (all : List Token) (outcome : Outcome A) (make : A → B) → IsRefused text all outcome → IsRefused text all (and_then outcome (λ x. pure (make x)))
@@ -709,19 +711,13 @@ descriptions_refused text all i within =
     (λ x j is. refused_map text all (input.finish j) (λ y. (x, y)) (finish_refused text all j is)))
 
 -- an outcome that is an error is refused
-refused_err : {A : Type 0} (text : List ℕ) (all : List Token) (outcome : Outcome A) (e : ParseFault) → outcome ≡ Err e → IsRefused text all outcome → IsRefusalOf text all e
+refused_err : {A : Type 0} (text : List ℕ) (all : List Token) (outcome : Outcome A) (e : ParseFault) → outcome ≡ Err e → IsRefused text all outcome → Refuses text all e
 refused_err {A} text all outcome e is refused = subst (λ (o : Outcome A). IsRefused text all o) is refused
 
 -- all tokens of a text are within the list
 all_within : (text : List ℕ) (tokens : List Token) → AreTokensOf text tokens → IsWithin text tokens (whole text tokens)
 all_within text tokens are = record { same = refl; left = refl; ended = ended_of text tokens (are_sound text tokens are) }
 
--- what is answered as a fault, but want of memory, is a token of the list
-pub refused_of : (text : List ℕ) (tokens : List Token) (answer : Result (List Module × List UdpDecl) ParseFault) → AreTokensOf text tokens → GivesLists (descriptions_of text tokens) answer
-    → IfErr answer (λ fault. IsRefusalOf text tokens fault)
-refused_of text tokens (Ok found) are gives = tt
-refused_of text tokens (Err Memory) are gives = tt
-refused_of text tokens (Err (Unsupported n)) are gives =
-    refused_err text tokens (descriptions_of text tokens) (Unsupported n) (gives (λ e. cc)) (descriptions_refused text tokens (whole text tokens) (all_within text tokens are))
-refused_of text tokens (Err (Syntax n)) are gives =
-    refused_err text tokens (descriptions_of text tokens) (Syntax n) (gives (λ e. cc)) (descriptions_refused text tokens (whole text tokens) (all_within text tokens are))
+-- where the tokens of a text are refused it is at one of them
+pub refuses_of : (text : List ℕ) (tokens : List Token) (e : ParseFault) → AreTokensOf text tokens → descriptions_of text tokens ≡ Err e → Refuses text tokens e
+refuses_of text tokens e are is = refused_err text tokens (descriptions_of text tokens) e is (descriptions_refused text tokens (whole text tokens) (all_within text tokens are))

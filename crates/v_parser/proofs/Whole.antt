@@ -1,31 +1,22 @@
 -- What is read of all tokens of a text is its tree.
 use Rattle.std.proofs.Common.{◌≡◌, ℕ, ◌≤◌, List, [], ◌∷◌, length, Result, Ok, Err, refl, sym, ap, subst, ◌∙◌, arith}
-use Rattle.std.specs.Prelude.{IfOk}
+use Rattle.std.specs.Prelude.{IfOk, IfErr}
 use Rattle.std.specs.List.{AllByRecursion}
 use Rattle.v_lexer.specs.declared.token.Token.{Token}
 use Rattle.v_lexer.specs.Reading.{AreTokensOf}
-use Rattle.v_lexer.proofs.Sound.{are_sound}
 use Rattle.v_tree.specs.declared.modules.Module.{Module}
 use Rattle.v_tree.specs.declared.modules.Description.{Description}
 use Rattle.v_tree.specs.declared.modules.Description.TheVariants as described
 use Rattle.v_tree.specs.declared.modules.File.{File}
 use Rattle.v_tree.specs.declared.primitives.UdpDecl.{UdpDecl}
-use Rattle.v_tree.specs.Written.{AreWritten}
-use Rattle.v_tree.specs.Spelling.{spelling}
 use Rattle.v_tree.specs.Fit.{AreFit, AreFitLists, IsFitModule, IsFitUdp, IsFitDescription}
 use Rattle.v_tree.specs.Tree.{IsTreeOf, modules_among, udps_among}
 use Rattle.v_parser.specs.declared.fault.ParseFault.{ParseFault}
 use Rattle.v_parser.specs.declared.fault.ParseFault.TheVariants.{Unsupported, Syntax, Memory}
 use Rattle.v_parser.specs.Input.{Input, Outcome}
 use Rattle.v_parser.specs.Descriptions.{descriptions}
-use Rattle.v_parser.specs.Reading.{whole, descriptions_of, Sorts, ReadsSorted, GivesLists, IsSameFile}
-use Rattle.v_parser.proofs.Source.{source_of, ended_of}
-use Rattle.v_parser.proofs.DescriptionRules.{descriptions_found, descriptions_only}
-
--- the descriptions that are read are written with the tokens
-written_of : (text : List ℕ) (tokens : List Token) (ds : List Description) (rest : Input) → length text ≤ 67108864 → AreTokensOf text tokens → descriptions_of text tokens ≡ Ok (ds, rest)
-    → AreWritten text 0 tokens (spelling ds) × AreFit IsFitDescription ds
-written_of text tokens ds rest small are is = descriptions_found text tokens ds rest (source_of text tokens small are) (ended_of text tokens (are_sound text tokens are)) is
+use Rattle.v_parser.specs.Reading.{whole, descriptions_of, Sorts, ReadsSorted, GivesLists, IsSameFile, IsRefusalOf}
+use Rattle.v_parser.proofs.Laws.{read_found, read_only, refused_found}
 
 -- what reading from an input with all tokens ensures, said of the text
 pub gives_of : (text : List ℕ) (tokens : List Token) (input new : Input) (answer : Result (List Module × List UdpDecl) ParseFault) → input ≡ whole text tokens → ReadsSorted (descriptions input) answer new
@@ -64,14 +55,14 @@ lists_fit ds f =
 pub fit_of : (text : List ℕ) (tokens : List Token) (answer : Result (List Module × List UdpDecl) ParseFault) → length text ≤ 67108864 → AreTokensOf text tokens → GivesLists (descriptions_of text tokens) answer
     → IfOk answer (λ lists. AreFitLists lists.0 lists.1)
 fit_of text tokens (Ok lists) small are gives =
-    let fits = lists_fit gives.1.found (written_of text tokens gives.1.found gives.0 small are gives.1.read).1 in
+    let fits = lists_fit gives.1.found (read_found text tokens gives.1.found gives.0 small are gives.1.read).1 in
     subst (λ (ms : List Module). AreFitLists ms lists.1) gives.1.modules_are (subst (λ (us : List UdpDecl). AreFitLists (modules_among gives.1.found) us) gives.1.udps_are fits)
 fit_of text tokens (Err e) small are gives = tt
 
 -- a file of the lists that are read is the tree
 pub tree_of : (text : List ℕ) (tokens : List Token) (f : File) → length text ≤ 67108864 → AreTokensOf text tokens → GivesLists (descriptions_of text tokens) (Ok (f.modules, f.udps)) → IsTreeOf text tokens f
 tree_of text tokens f small are gives =
-    let all = written_of text tokens gives.1.found gives.0 small are gives.1.read in
+    let all = read_found text tokens gives.1.found gives.0 small are gives.1.read in
     record { descriptions = gives.1.found; written = all.0; fit = all.1; modules = gives.1.modules_are; udps = gives.1.udps_are }
 
 -- the descriptions of an outcome, or others
@@ -89,7 +80,7 @@ no_refusal ds rest outcome e ok err = cc
 
 -- what is written with the tokens is read
 there : (text : List ℕ) (tokens : List Token) (tree : File) (is : IsTreeOf text tokens tree) → (rest : Input) × (descriptions_of text tokens ≡ Ok (is.descriptions, rest))
-there text tokens tree is = descriptions_only text tokens is.descriptions is.written is.fit
+there text tokens tree is = read_only text tokens is.descriptions is.written is.fit
 
 -- a file of the lists that are read is each tree
 pub same_of : (text : List ℕ) (tokens : List Token) (f : File) → GivesLists (descriptions_of text tokens) (Ok (f.modules, f.udps)) → (tree : File) → IsTreeOf text tokens tree → IsSameFile f tree
@@ -107,3 +98,11 @@ memory_of text tokens (Syntax n) gives tree is =
 memory_of text tokens (Unsupported n) gives tree is =
     let read = there text tokens tree is in
     absurd (no_refusal is.descriptions read.0 (descriptions_of text tokens) (Unsupported n) read.1 (gives (λ e. cc)))
+
+-- what is answered as a fault, but want of memory, is a token of the list
+pub refused_of : (text : List ℕ) (tokens : List Token) (answer : Result (List Module × List UdpDecl) ParseFault) → AreTokensOf text tokens → GivesLists (descriptions_of text tokens) answer
+    → IfErr answer (λ fault. IsRefusalOf text tokens fault)
+refused_of text tokens (Ok found) are gives = tt
+refused_of text tokens (Err Memory) are gives = tt
+refused_of text tokens (Err (Unsupported n)) are gives = (refused_found text tokens (Unsupported n) are (gives (λ e. cc))).1
+refused_of text tokens (Err (Syntax n)) are gives = (refused_found text tokens (Syntax n) are (gives (λ e. cc))).1

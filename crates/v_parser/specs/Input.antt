@@ -1,12 +1,12 @@
 -- What is left to read, and the steps that reading is made of.
-use Rattle.std.specs.Prelude.{◌≡◌, ◌≢◌, ℕ, zero, suc, ◌+◌, Bool, true, false, ◌==◌, if◌then◌else◌, List, [], ◌∷◌, ◌++◌, length, codes, Option, Some, None, Result, Ok, Err}
+use Rattle.std.specs.Prelude.{◌≡◌, ◌≢◌, ℕ, zero, suc, ◌+◌, Bool, true, false, ◌==◌, if◌then◌else◌, List, [], ◌∷◌, ◌++◌, length, Option, Some, None, Result, Ok, Err}
 use Rattle.std.specs.Str.{bytes_eq}
 use Rattle.name_table.specs.Names.{is_among}
 use Rattle.v_lexer.specs.declared.token.Token.{Token}
 use Rattle.v_lexer.specs.declared.token.TokenKind.{TokenKind}
 use Rattle.v_lexer.specs.declared.token.TokenKind.TheVariants as kind
 use Rattle.v_lexer.specs.declared.values.Literal.{Literal}
-use Rattle.v_lexer.specs.Words.{words_of}
+use Rattle.v_lexer.specs.Words.{left_out_words}
 use Rattle.v_tree.specs.declared.places.Place.{Place}
 use Rattle.v_tree.specs.declared.places.Name.{Name}
 use Rattle.v_tree.specs.Written.{Form, form_of, slice_of}
@@ -64,16 +64,12 @@ bytes i = bytes_in i.text i.tokens
 
 -- ---- refusals
 
--- the words that the grammar leaves out
-unfoldable pub unsupported_words : List (List ℕ)
-unsupported_words = words_of (codes "always automatic begin case casex casez deassign defparam disable edge else end endcase endfunction endgenerate endspecify endtask event for force forever fork function generate genvar if initial integer join localparam negedge parameter posedge real realtime reg release repeat signed specify specparam task time unsigned uwire wait while")
-
 -- a token of a kind belongs to what the grammar leaves out
 abbrev pub is_left_out : TokenKind → List ℕ → Bool
 is_left_out kind.Directive bytes = true
 is_left_out kind.Decimal bytes = true
 is_left_out kind.Exponent bytes = true
-is_left_out kind.Word bytes = is_among bytes unsupported_words
+is_left_out kind.Word bytes = is_among bytes left_out_words
 is_left_out _ bytes = false
 
 abbrev pub is_unsupported_in : List ℕ → List Token → Bool

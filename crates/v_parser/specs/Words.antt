@@ -86,10 +86,6 @@ charge_of word = named charge_table word
 abbrev pub charge_in : Form → Option Charge
 charge_in f = chosen charge_of (word_in f)
 
--- the first of two tokens stands for one
-abbrev pub sees_charge : Form → Form → Bool
-sees_charge f g = is_some (charge_in f)
-
 unfoldable pub logic_table : List (List ℕ × LogicGate)
 logic_table = (codes "and", logic.And) ∷ (codes "nand", logic.Nand) ∷ (codes "or", logic.Or) ∷ (codes "nor", logic.Nor) ∷ (codes "xor", logic.Xor) ∷ (codes "xnor", logic.Xnor) ∷ (codes "buf", logic.Buf) ∷ (codes "not", logic.Not) ∷ (codes "bufif0", logic.Bufif0) ∷ (codes "bufif1", logic.Bufif1) ∷ (codes "notif0", logic.Notif0) ∷ (codes "notif1", logic.Notif1) ∷ []
 
@@ -150,10 +146,6 @@ opening_of word = named opening_table word
 
 abbrev pub opening_in : Form → Option ModuleWord
 opening_in f = chosen opening_of (word_in f)
-
--- the first of two tokens stands for one
-abbrev pub sees_opening : Form → Form → Bool
-sees_opening f g = is_some (opening_in f)
 
 unfoldable pub level_table : List (List ℕ × Level)
 level_table = (codes "supply0", level_with Supply false) ∷ (codes "supply1", level_with Supply true) ∷ (codes "strong0", level_with Strong false) ∷ (codes "strong1", level_with Strong true) ∷ (codes "pull0", level_with Pull false) ∷ (codes "pull1", level_with Pull true) ∷ (codes "weak0", level_with Weak false) ∷ (codes "weak1", level_with Weak true) ∷ (codes "highz0", level_with Highz false) ∷ (codes "highz1", level_with Highz true) ∷ []

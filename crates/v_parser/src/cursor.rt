@@ -1,13 +1,10 @@
 //! A cursor over the tokens of a text.
 
-ghost use Rattle.std.specs.Prelude.{◌≡◌, ◌≤◌, ◌<◌, ◌∷◌, [], IfOk, IfSome, IfNone, ◌^◌, length, take, drop, ◌-◌};
+ghost use Rattle.std.specs.Prelude.{◌≡◌, ◌<◌, IfOk, ◌^◌, length, take, drop, ◌-◌};
 ghost use Rattle.v_lexer.specs.declared.token.TokenKind.TheVariants.{End};
 ghost use Rattle.v_tree.specs.Written.{slice_of, lower};
-ghost use Rattle.name_table.specs.Names.{is_among};
 ghost use Rattle.v_lexer.specs.Bytes.{first};
-ghost use Rattle.v_lexer.specs.Words.{is_in_word, words_of};
 ghost use Rattle.std.specs.Option.{option_copied};
-ghost use Rattle.std.specs.List.{prefix_len};
 ghost use Rattle.std.specs.Str.{bytes_eq};
 ghost use Rattle.v_parser.specs.Input as spec;
 ghost use Rattle.v_parser.specs.Input.{Reads};
@@ -16,7 +13,9 @@ use crate::fault::ParseFault;
 use flat_net::Bytes;
 use std::alloc::{AllocError, Global};
 use std::marker::Model;
-use v_lexer::{Literal, Token, TokenKind, is_literal, literal_value, name_text, number_value};
+use v_lexer::{
+    Literal, Token, TokenKind, is_left_out_word, is_literal, literal_value, name_text, number_value,
+};
 use v_tree::{Name, Place};
 
 /// The tokens that are left, and the text that they stand in.
@@ -79,65 +78,13 @@ fn lower(byte: u8) -> u8
     }
 }
 
-/// The words that the grammar leaves out.
-const UNSUPPORTED: &[u8] =
-    b"always automatic begin case casex casez deassign defparam disable edge else end endcase endfunction endgenerate endspecify endtask event for force forever fork function generate genvar if initial integer join localparam negedge parameter posedge real realtime reg release repeat signed specify specparam task time unsigned uwire wait while";
-
-/// The bytes after the first.
-fn after_first(bytes: &[u8]) -> &[u8]
-    ensures { result.now ≡ drop 1 bytes.now }
-{
-    match bytes {
-        [_, rest @ ..] => rest,
-        [] => bytes,
-    }
-}
-
-/// How many bytes stand before the first space.
-fn word_run(text: &[u8]) -> usize
-    ensures len { result ≡ prefix_len is_in_word text.now }
-    ensures within { result ≤ length text.now }
-{
-    text.iter().take_while(|byte| **byte != b' ').count()
-}
-
-/// The first word of a text of words, and the text after it.
-#[tactic(auto, using(crate::proofs::WordLists::none_left))]
-fn first_word(text: &[u8]) -> Option<(&[u8], &[u8])>
-    ensures first { IfSome result (λ x. words_of text.now ≡ x.0.now ∷ words_of x.1.now) }
-    ensures shorter { IfSome result (λ x. length x.1.now < length text.now) }
-    ensures none { IfNone result (words_of text.now ≡ []) }
-{
-    if text.is_empty() {
-        return None;
-    }
-    let len = word_run(text);
-    let (front, back) = text.split_at(len);
-    Some((front, after_first(back)))
-}
-
-/// Whether a word stands in a text of words.
-fn is_word_of(text: &[u8], word: &[u8]) -> bool
-    ensures { result ≡ is_among word.now (words_of text.now) }
-{
-    let mut rest = text;
-    while let Some((front, back)) = first_word(rest) {
-        if is(word, front) {
-            return true;
-        }
-        rest = back;
-    }
-    false
-}
-
 /// Whether a token of a kind belongs to what the grammar leaves out.
-#[tactic(auto, unfolding(crate::specs::Input::unsupported_words))]
 fn is_left_out(kind: TokenKind, bytes: &[u8]) -> bool
     ensures { result ≡ spec.is_left_out kind bytes.now }
 {
     match kind {
         TokenKind::Directive | TokenKind::Decimal | TokenKind::Exponent => true,
-        TokenKind::Word => is_word_of(UNSUPPORTED, bytes),
+        TokenKind::Word => is_left_out_word(bytes),
         _ => false,
     }
 }

@@ -12,10 +12,10 @@ use crate::drives::{charge_if_there, delay_if_there, drive_in_parentheses};
 use crate::expressions::{expr_at, range, target_at};
 use crate::fault::ParseFault;
 use crate::lists::{Part, separated};
-use crate::words::{direction_word, net_type_word, sees_net_type, sees_spread, spread_word};
+use crate::words::{sees, word_for};
 use v_tree::{
-    AssignItem, Declared, Expr, Name, NetDecl, NetType, Pair, PortDecl, Range, Spread, SpreadWord,
-    Target, TriregDecl, ValuedName,
+    AssignItem, Declared, Direction, Expr, Name, NetDecl, NetType, Pair, PortDecl, Range, Spread,
+    SpreadWord, Target, TriregDecl, ValuedName,
 };
 
 /// An expression whose concatenations stand at most 64 deep.
@@ -39,7 +39,7 @@ fn target(cursor: &mut Cursor<'_>) -> Result<Target, ParseFault>
 fn net_type(cursor: &mut Cursor<'_>) -> Result<NetType, ParseFault>
     ensures { Reads (spec.net_type cursor.old) result cursor.new }
 {
-    let (net_type, _) = net_type_word(cursor)?;
+    let (net_type, _) = word_for::<NetType>(cursor)?;
     Ok(net_type)
 }
 
@@ -48,7 +48,7 @@ fn net_type(cursor: &mut Cursor<'_>) -> Result<NetType, ParseFault>
 pub fn net_type_if_there(cursor: &mut Cursor<'_>) -> Result<Option<NetType>, ParseFault>
     ensures { Reads (input.optional words.sees_net_type spec.net_type cursor.old) result cursor.new }
 {
-    if sees_net_type(cursor) {
+    if sees::<NetType>(cursor) {
         Ok(Some(net_type(cursor)?))
     } else {
         Ok(None)
@@ -82,7 +82,7 @@ impl Part for Name {
 pub fn port_decl(cursor: &mut Cursor<'_>) -> Result<PortDecl, ParseFault>
     ensures { Reads (spec.port_decl cursor.old) result cursor.new }
 {
-    let (direction, place) = direction_word(cursor)?;
+    let (direction, place) = word_for::<Direction>(cursor)?;
     let net_type = net_type_if_there(cursor)?;
     let range = range_if_there(cursor)?;
     let names = separated(cursor)?;
@@ -101,7 +101,7 @@ pub fn port_decl(cursor: &mut Cursor<'_>) -> Result<PortDecl, ParseFault>
 fn spread_named(cursor: &mut Cursor<'_>) -> Result<SpreadWord, ParseFault>
     ensures { Reads (spec.spread_named cursor.old) result cursor.new }
 {
-    let (word, _) = spread_word(cursor)?;
+    let (word, _) = word_for::<SpreadWord>(cursor)?;
     Ok(word)
 }
 
@@ -110,7 +110,7 @@ fn spread_named(cursor: &mut Cursor<'_>) -> Result<SpreadWord, ParseFault>
 fn spread_named_if_there(cursor: &mut Cursor<'_>) -> Result<Option<SpreadWord>, ParseFault>
     ensures { Reads (input.optional words.sees_spread spec.spread_named cursor.old) result cursor.new }
 {
-    if sees_spread(cursor) {
+    if sees::<SpreadWord>(cursor) {
         Ok(Some(spread_named(cursor)?))
     } else {
         Ok(None)
@@ -132,7 +132,7 @@ fn spread(cursor: &mut Cursor<'_>) -> Result<Spread, ParseFault>
 fn spread_if_there(cursor: &mut Cursor<'_>) -> Result<Option<Spread>, ParseFault>
     ensures { Reads (input.optional spec.begins_spread spec.spread cursor.old) result cursor.new }
 {
-    if sees_spread(cursor) || cursor.sees_mark(b'[') {
+    if sees::<SpreadWord>(cursor) || cursor.sees_mark(b'[') {
         Ok(Some(spread(cursor)?))
     } else {
         Ok(None)
@@ -177,7 +177,7 @@ fn declared(cursor: &mut Cursor<'_>) -> Result<Declared, ParseFault>
 pub fn net_decl(cursor: &mut Cursor<'_>) -> Result<NetDecl, ParseFault>
     ensures { Reads (spec.net_decl cursor.old) result cursor.new }
 {
-    let (net_type, place) = net_type_word(cursor)?;
+    let (net_type, place) = word_for::<NetType>(cursor)?;
     let drive = drive_in_parentheses(cursor)?;
     let spread = spread_if_there(cursor)?;
     let delay = delay_if_there(cursor)?;

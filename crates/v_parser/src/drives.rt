@@ -9,7 +9,7 @@ ghost use Rattle.v_parser.specs.Expressions.{sees_mark, sees_number};
 use crate::cursor::Cursor;
 use crate::fault::ParseFault;
 use crate::lists::{Part, separated};
-use crate::words::{charge_word, level_word, sees_level};
+use crate::words::{sees, word_for};
 use v_tree::{Charge, Delay, DelaySpec, DelayValue, Drive, Level, PullLevels};
 
 /// A level, without its place.
@@ -17,7 +17,7 @@ use v_tree::{Charge, Delay, DelaySpec, DelayValue, Drive, Level, PullLevels};
 fn level(cursor: &mut Cursor<'_>) -> Result<Level, ParseFault>
     ensures { Reads (spec.level cursor.old) result cursor.new }
 {
-    let (level, _) = level_word(cursor)?;
+    let (level, _) = word_for::<Level>(cursor)?;
     Ok(level)
 }
 
@@ -42,7 +42,7 @@ fn drive(cursor: &mut Cursor<'_>) -> Result<Drive, ParseFault>
 pub fn sees_drive(cursor: &Cursor<'_>) -> bool
     ensures { result ≡ spec.sees_drive (input.front cursor.now) (input.front (input.next cursor.now)) }
 {
-    cursor.sees_mark(b'(') && sees_level(&cursor.behind())
+    cursor.sees_mark(b'(') && sees::<Level>(&cursor.behind())
 }
 
 /// A drive, where a `(` comes next.
@@ -123,7 +123,7 @@ pub fn pull_levels_if_there(cursor: &mut Cursor<'_>) -> Result<Option<PullLevels
 fn charge_named(cursor: &mut Cursor<'_>) -> Result<Charge, ParseFault>
     ensures { Reads (spec.charge_named cursor.old) result cursor.new }
 {
-    let (charge, _) = charge_word(cursor)?;
+    let (charge, _) = word_for::<Charge>(cursor)?;
     Ok(charge)
 }
 

@@ -12,8 +12,11 @@ use crate::declarations::expr;
 use crate::drives::{delay_if_there, drive_if_there, pull_levels_if_there};
 use crate::fault::ParseFault;
 use crate::lists::{Part, separated};
-use crate::words::{logic_word, pull_word, switch_word, tran_word};
-use v_tree::{Connection, Connections, Expr, GateItem, GateKind, Inst, Instance, Name, Terms};
+use crate::words::word_for;
+use v_tree::{
+    Connection, Connections, Expr, GateItem, GateKind, Inst, Instance, LogicGate, Name, PullGate,
+    Switch, Terms, TranGate,
+};
 
 /// A name, where one comes next.
 #[tactic(auto, unfolding(crate::specs::Input::optional))]
@@ -68,7 +71,7 @@ impl Part for Terms {
 pub fn logic_item(cursor: &mut Cursor<'_>) -> Result<GateItem, ParseFault>
     ensures { Reads (spec.logic_item cursor.old) result cursor.new }
 {
-    let (gate, place) = logic_word(cursor)?;
+    let (gate, place) = word_for::<LogicGate>(cursor)?;
     let drive = drive_if_there(cursor)?;
     let delay = delay_if_there(cursor)?;
     let gates = separated(cursor)?;
@@ -85,7 +88,7 @@ pub fn logic_item(cursor: &mut Cursor<'_>) -> Result<GateItem, ParseFault>
 pub fn switch_item(cursor: &mut Cursor<'_>) -> Result<GateItem, ParseFault>
     ensures { Reads (spec.switch_item cursor.old) result cursor.new }
 {
-    let (switch, place) = switch_word(cursor)?;
+    let (switch, place) = word_for::<Switch>(cursor)?;
     let delay = delay_if_there(cursor)?;
     let gates = separated(cursor)?;
     cursor.skip(b';')?;
@@ -101,7 +104,7 @@ pub fn switch_item(cursor: &mut Cursor<'_>) -> Result<GateItem, ParseFault>
 pub fn tran_item(cursor: &mut Cursor<'_>) -> Result<GateItem, ParseFault>
     ensures { Reads (spec.tran_item cursor.old) result cursor.new }
 {
-    let (tran, place) = tran_word(cursor)?;
+    let (tran, place) = word_for::<TranGate>(cursor)?;
     let gates = separated(cursor)?;
     cursor.skip(b';')?;
     Ok(GateItem {
@@ -116,7 +119,7 @@ pub fn tran_item(cursor: &mut Cursor<'_>) -> Result<GateItem, ParseFault>
 pub fn pull_item(cursor: &mut Cursor<'_>) -> Result<GateItem, ParseFault>
     ensures { Reads (spec.pull_item cursor.old) result cursor.new }
 {
-    let (pull, place) = pull_word(cursor)?;
+    let (pull, place) = word_for::<PullGate>(cursor)?;
     let levels = pull_levels_if_there(cursor)?;
     let gates = separated(cursor)?;
     cursor.skip(b';')?;

@@ -12,19 +12,19 @@ use crate::declarations::{
 use crate::fault::ParseFault;
 use crate::gates::{instance, logic_item, pull_item, switch_item, tran_item};
 use crate::lists::{Part, Repeated, commas, many, separated};
-use crate::words::{
-    direction_word, opening_word, sees_direction, sees_logic, sees_net_type, sees_pull,
-    sees_switch, sees_tran,
-};
+use crate::words::{sees, word_for};
 use sqlite_items::Items;
-use v_tree::{AnsiEntry, AnsiPort, Item, Module, Ports};
+use v_tree::{
+    AnsiEntry, AnsiPort, Direction, Item, LogicGate, Module, ModuleWord, NetType, Ports, PullGate,
+    Switch, TranGate,
+};
 
 /// A pull gate, or an instance.
 #[tactic(auto, unfolding(crate::specs::Modules::pulls, crate::specs::Input::choice))]
 fn pulls(cursor: &mut Cursor<'_>) -> Result<Item, ParseFault>
     ensures { Reads (spec.pulls cursor.old) result cursor.new }
 {
-    if sees_pull(cursor) {
+    if sees::<PullGate>(cursor) {
         Ok(Item::Gates(pull_item(cursor)?))
     } else {
         Ok(Item::Instances(instance(cursor)?))
@@ -36,7 +36,7 @@ fn pulls(cursor: &mut Cursor<'_>) -> Result<Item, ParseFault>
 fn trans(cursor: &mut Cursor<'_>) -> Result<Item, ParseFault>
     ensures { Reads (spec.trans cursor.old) result cursor.new }
 {
-    if sees_tran(cursor) {
+    if sees::<TranGate>(cursor) {
         Ok(Item::Gates(tran_item(cursor)?))
     } else {
         pulls(cursor)
@@ -48,7 +48,7 @@ fn trans(cursor: &mut Cursor<'_>) -> Result<Item, ParseFault>
 fn switches(cursor: &mut Cursor<'_>) -> Result<Item, ParseFault>
     ensures { Reads (spec.switches cursor.old) result cursor.new }
 {
-    if sees_switch(cursor) {
+    if sees::<Switch>(cursor) {
         Ok(Item::Gates(switch_item(cursor)?))
     } else {
         trans(cursor)
@@ -60,7 +60,7 @@ fn switches(cursor: &mut Cursor<'_>) -> Result<Item, ParseFault>
 fn gates(cursor: &mut Cursor<'_>) -> Result<Item, ParseFault>
     ensures { Reads (spec.gates cursor.old) result cursor.new }
 {
-    if sees_logic(cursor) {
+    if sees::<LogicGate>(cursor) {
         Ok(Item::Gates(logic_item(cursor)?))
     } else {
         switches(cursor)
@@ -96,7 +96,7 @@ fn charged(cursor: &mut Cursor<'_>) -> Result<Item, ParseFault>
 fn nets(cursor: &mut Cursor<'_>) -> Result<Item, ParseFault>
     ensures { Reads (spec.nets cursor.old) result cursor.new }
 {
-    if sees_net_type(cursor) {
+    if sees::<NetType>(cursor) {
         Ok(Item::Nets(net_decl(cursor)?))
     } else {
         charged(cursor)
@@ -108,7 +108,7 @@ fn nets(cursor: &mut Cursor<'_>) -> Result<Item, ParseFault>
 fn module_item(cursor: &mut Cursor<'_>) -> Result<Item, ParseFault>
     ensures { Reads (spec.module_item cursor.old) result cursor.new }
 {
-    if sees_direction(cursor) {
+    if sees::<Direction>(cursor) {
         Ok(Item::Ports(port_decl(cursor)?))
     } else {
         nets(cursor)
@@ -140,7 +140,7 @@ impl Repeated for Item {
 fn ansi_port(cursor: &mut Cursor<'_>) -> Result<AnsiPort, ParseFault>
     ensures { Reads (spec.ansi_port cursor.old) result cursor.new }
 {
-    let (direction, place) = direction_word(cursor)?;
+    let (direction, place) = word_for::<Direction>(cursor)?;
     let net_type = net_type_if_there(cursor)?;
     let range = range_if_there(cursor)?;
     let name = cursor.name()?;
@@ -240,7 +240,7 @@ fn header_ports(cursor: &mut Cursor<'_>) -> Result<Ports, ParseFault>
 pub fn module_at(cursor: &mut Cursor<'_>) -> Result<Module, ParseFault>
     ensures { Reads (spec.module_at cursor.old) result cursor.new }
 {
-    let (word, place) = opening_word(cursor)?;
+    let (word, place) = word_for::<ModuleWord>(cursor)?;
     let name = cursor.name()?;
     let ports = header_ports(cursor)?;
     cursor.skip(b';')?;

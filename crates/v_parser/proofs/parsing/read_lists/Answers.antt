@@ -1,8 +1,7 @@
 use Rattle.std.proofs.Common.{arith, length, ◌+◌, ◌≤◌}
 use Rattle.v_parser.specs.Reading.{descriptions_of, GivesLists}
 use Rattle.v_parser.proofs.Source.{tokens_few}
-use Rattle.v_parser.proofs.Refusals.{refused_of}
-use Rattle.v_parser.proofs.Whole.{gives_of, fit_of}
+use Rattle.v_parser.proofs.Whole.{gives_of, fit_of, refused_of}
 use Rattle.v_parser.proofs.parsing.read_lists.Goals as goal
 
 pub new-cursor-requires : goal.new-cursor-requires
