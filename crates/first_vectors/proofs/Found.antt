@@ -17,7 +17,7 @@ use Rattle.name_table.specs.Names.{is_distinct}
 use Rattle.first_vectors.specs.declared.fault.VectorFault.{VectorFault}
 use Rattle.first_vectors.specs.declared.row.Row.{Row}
 use Rattle.first_vectors.specs.declared.row.Row.TheVariants.{Values, End}
-use Rattle.first_vectors.specs.Fields.{◌>>=◌, table_of, two_of, time_of}
+use Rattle.first_vectors.specs.Fields.{◌>>=◌, name_in, table_of, two_of, time_of}
 use Rattle.first_vectors.specs.Reading.{value_of, values_of, name_of, input_named, inputs_named, listed, inputs_of, end_row, value_row, row_of, joined, rows_of, is_first, stimulus_after, stimulus_in, stimulus_of, Gives}
 use Rattle.first_vectors.specs.First.{IsValue, IsRow, IsInput, row_fields, spelling, IsFirstVectors}
 use Rattle.first_vectors.proofs.Names.{distinct_apart}
@@ -178,8 +178,8 @@ pub record Lists (netlist : Netlist) (fields : List (List ℕ)) (nets : List ℕ
   pub names : List (List ℕ)
   pub spelled : fields ≡ codes "inputs" ∷ names
   pub some : 0 < length names
-  pub distinct : is_distinct names ≡ true
-  pub inputs : AllZip (IsInput netlist) names nets
+  pub distinct : is_distinct (map name_in names) ≡ true
+  pub inputs : AllZip (IsInput netlist) (map name_in names) nets
 
 listed_found : (netlist : Netlist) (names : List (List ℕ)) (nets : List ℕ) → listed netlist names ≡ Some nets → (0 < length names) × (is_distinct names ≡ true) × (inputs_named netlist names ≡ Some nets)
 unfolding listed
@@ -192,14 +192,14 @@ lists_found : (netlist : Netlist) (fields : List (List ℕ)) (nets : List ℕ) �
 unfolding inputs_of
 lists_found netlist [] nets e = absurd cc
 lists_found netlist (word ∷ names) nets e =
-    let g = guard_some (bytes_eq word (codes "inputs")) (listed netlist names) nets e in
-    let l = listed_found netlist names nets g.1 in
+    let g = guard_some (bytes_eq word (codes "inputs")) (listed netlist (map name_in names)) nets e in
+    let l = listed_found netlist (map name_in names) nets g.1 in
     record {
       names = names;
       spelled = ap (λ (w : List ℕ). w ∷ names) ((bytes_eq-Decides word (codes "inputs")).0 g.0);
-      some = l.0;
+      some = omega (arith, l.0, length-map names name_in);
       distinct = l.1;
-      inputs = inputs_found netlist names nets l.2;
+      inputs = inputs_found netlist (map name_in names) nets l.2;
     }
 
 -- ---- the whole
@@ -214,8 +214,8 @@ first_found (word ∷ form ∷ third ∷ others) e = absurd cc
 
 says_lawful : (netlist : Netlist) (fields : List (List ℕ)) (table : List (List (List ℕ))) (stimulus : Stimulus) → Lists netlist fields stimulus.inputs → Says (length stimulus.inputs) 0 table stimulus.lines stimulus.end → IsLawful netlist stimulus
 says_lawful netlist fields table stimulus lists says = record {
-  known = inputs_known netlist lists.names stimulus.inputs lists.inputs;
-  apart = inputs_apart netlist lists.names stimulus.inputs lists.distinct lists.inputs;
+  known = inputs_known netlist (map name_in lists.names) stimulus.inputs lists.inputs;
+  apart = inputs_apart netlist (map name_in lists.names) stimulus.inputs lists.distinct lists.inputs;
   widths = All-from_recursion (λ line. length line.values ≡ length stimulus.inputs) stimulus.lines says.widths;
   rising = λ j k lt in'. rises_pairs 0 stimulus.lines stimulus.end j k says.rises lt in';
   ended = All-from_get_or (λ time. time ≤ stimulus.end) (times_of stimulus.lines) 0 (λ k lt. rises_below 0 stimulus.lines stimulus.end k says.rises (omega (arith, length-map stimulus.lines (λ line. line.time))));

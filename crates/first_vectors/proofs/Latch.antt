@@ -1,10 +1,10 @@
 -- What the definitions say of small texts, for the nets of a latch.
-use Rattle.std.proofs.Common.{◌≡◌, ℕ, List, [], ◌∷◌, ◌++◌, Some, None, refl}
+use Rattle.std.proofs.Common.{◌≡◌, ℕ, List, [], ◌∷◌, ◌++◌, map, Some, None, refl}
 use Rattle.std.specs.Prelude.{codes}
 use Rattle.level_range.specs.declared.range.Logic.TheVariants.{Zero, One}
 use Rattle.gate_net.specs.declared.netlist.Netlist.{Netlist}
 use Rattle.gate_net.specs.declared.stimulus.Stimulus.{Stimulus}
-use Rattle.first_vectors.specs.Fields.{fields_of, table_of, number_after, within_limit, time_of}
+use Rattle.first_vectors.specs.Fields.{fields_of, name_in, table_of, number_after, within_limit, time_of}
 use Rattle.first_vectors.specs.Reading.{values_of, input_named, inputs_named, listed, inputs_of, end_row, value_row, row_of, rows_of, stimulus_after, stimulus_in, stimulus_of}
 
 abbrev latch : Netlist
@@ -42,3 +42,7 @@ empty_line_behind = refl
 
 two_spaces : fields_of (codes "a  b ") ≡ codes "a" ∷ [] ∷ codes "b" ∷ [] ∷ []
 two_spaces = refl
+
+-- the fields are \s+ and r and \r: each that begins with a backslash, byte 92, has its space
+escaped_names : map name_in (fields_of (92 ∷ codes "s+ r " ++ 92 ∷ codes "r")) ≡ (92 ∷ codes "s+ ") ∷ codes "r" ∷ (92 ∷ codes "r ") ∷ []
+escaped_names = refl

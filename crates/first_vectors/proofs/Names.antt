@@ -11,7 +11,7 @@ use Rattle.gate_net.specs.declared.netlist.Netlist.{Netlist}
 use Rattle.gate_net.specs.Sound.{IsSound}
 use Rattle.name_table.specs.Names.{same_name, is_among, is_distinct, place_of}
 use Rattle.name_table.proofs.Found.{is_distinct-push}
-use Rattle.first_vectors.specs.Fields.{◌>>=◌, fields_of}
+use Rattle.first_vectors.specs.Fields.{◌>>=◌, fields_of, name_in}
 use Rattle.first_vectors.specs.Reading.{name_of, input_names, input_named, inputs_named, listed}
 
 -- ---- names apart
@@ -188,10 +188,14 @@ pub listed_all : (netlist : Netlist) (fields seen : List (List ℕ)) (nets : Lis
 listed_all netlist fields seen nets name net h is =
     ap (listed netlist) is ∙ listed_is netlist seen name [] ∙ rw h.distinct h.named
 
--- the first field, whether or not there are others
-pub first_field : (line first : List ℕ) (o : Option (Bor (List ℕ))) → MatchOption o (fields_of line ≡ first ∷ []) (λ rest. fields_of line ≡ first ∷ fields_of rest.now) → (others : List (List ℕ)) × (fields_of line ≡ first ∷ others)
-first_field line first None e = ([], e)
-first_field line first (Some rest) e = (fields_of rest.now, e)
+-- the names that the fields of a line say
+abbrev pub names_in : List ℕ → List (List ℕ)
+names_in line = map name_in (fields_of line)
+
+-- the first name, whether or not there are others
+pub first_name : (line field name : List ℕ) (o : Option (Bor (List ℕ))) → name ≡ name_in field → MatchOption o (fields_of line ≡ field ∷ []) (λ rest. fields_of line ≡ field ∷ fields_of rest.now) → (others : List (List ℕ)) × (names_in line ≡ name ∷ others)
+first_name line field name None is e = ([], rw is (ap (map name_in) e))
+first_name line field name (Some rest) is e = (names_in rest.now, rw is (ap (map name_in) e))
 
 pub among_from : (added : Bool) (name : List ℕ) (seen : List (List ℕ)) → added ≡ not (is_among name seen) → added ≡ false → is_among name seen ≡ true
 among_from added name seen e old = not-false (is_among name seen) (sym e ∙ old)
@@ -205,8 +209,8 @@ grown added name seen next e new = e ∙ rw new refl
 pub parts_more : (fields seen rest : List (List ℕ)) (name : List ℕ) (others next : List (List ℕ)) → fields ≡ seen ++ rest → rest ≡ name ∷ others → next ≡ seen ++ name ∷ [] → fields ≡ next ++ others
 parts_more fields seen rest name others next e f g = e ∙ ap (λ (x : List (List ℕ)). seen ++ x) f ∙ sym (append_assoc seen (name ∷ []) others) ∙ ap (λ (x : List (List ℕ)). x ++ others) (sym g)
 
-pub field_then : (line first : List ℕ) (o : Option (Bor (List ℕ))) (after : Bor (List ℕ)) → o ≡ Some after → MatchOption o (fields_of line ≡ first ∷ []) (λ rest. fields_of line ≡ first ∷ fields_of rest.now) → fields_of line ≡ first ∷ fields_of after.now
-field_then line first o after is parts = MatchOption-at_some (fields_of line ≡ first ∷ []) (λ rest. fields_of line ≡ first ∷ fields_of rest.now) after is parts
+pub name_then : (line field name : List ℕ) (o : Option (Bor (List ℕ))) (after : Bor (List ℕ)) → name ≡ name_in field → o ≡ Some after → MatchOption o (fields_of line ≡ field ∷ []) (λ rest. fields_of line ≡ field ∷ fields_of rest.now) → names_in line ≡ name ∷ names_in after.now
+name_then line field name o after is more parts = rw is (ap (map name_in) (MatchOption-at_some (fields_of line ≡ field ∷ []) (λ rest. fields_of line ≡ field ∷ fields_of rest.now) after more parts))
 
-pub field_last : (line first : List ℕ) (o : Option (Bor (List ℕ))) → o ≡ None → MatchOption o (fields_of line ≡ first ∷ []) (λ rest. fields_of line ≡ first ∷ fields_of rest.now) → fields_of line ≡ first ∷ []
-field_last line first o is parts = MatchOption-at_none (fields_of line ≡ first ∷ []) (λ rest. fields_of line ≡ first ∷ fields_of rest.now) is parts
+pub name_last : (line field name : List ℕ) (o : Option (Bor (List ℕ))) → name ≡ name_in field → o ≡ None → MatchOption o (fields_of line ≡ field ∷ []) (λ rest. fields_of line ≡ field ∷ fields_of rest.now) → names_in line ≡ name ∷ []
+name_last line field name o is none parts = rw is (ap (map name_in) (MatchOption-at_none (fields_of line ≡ field ∷ []) (λ rest. fields_of line ≡ field ∷ fields_of rest.now) none parts))

@@ -1,5 +1,5 @@
 -- The lines, fields and times of a text, by cases on its bytes.
-use Rattle.std.specs.Prelude.{ℕ, ◌+◌, ◌-◌, ◌*◌, ◌^◌, ◌&&◌, List, [], ◌∷◌, length, map, Option, Some, None, nat_lt, nat_le, ◌==◌, if◌then◌else◌}
+use Rattle.std.specs.Prelude.{ℕ, ◌+◌, ◌-◌, ◌*◌, ◌^◌, ◌&&◌, List, [], ◌∷◌, ◌++◌, length, map, Option, Some, None, nat_lt, nat_le, ◌==◌, if◌then◌else◌}
 use Rattle.std.specs.List.{slice_split, onto_first}
 
 -- the next step, where there is a value
@@ -17,6 +17,12 @@ lines_of (b ∷ bs) = if b == 10 then [] ∷ lines_of bs else onto_first b (line
 -- the pieces between single spaces: two spaces in a row, or one at an end, make an empty field
 abbrev pub fields_of : List ℕ → List (List ℕ)
 fields_of line = slice_split (λ b. b == 32) line
+
+-- the name that a field says: an escaped name, which begins with a backslash, has a space of its
+-- own at its end (IEEE 1364-2005, 3.7.1); any other is the field as it stands
+abbrev pub name_in : List ℕ → List ℕ
+name_in [] = []
+name_in (b ∷ bs) = if b == 92 then b ∷ bs ++ 32 ∷ [] else b ∷ bs
 
 -- the fields of each line
 unfoldable pub table_of : List ℕ → List (List (List ℕ))

@@ -11,7 +11,7 @@ use Rattle.first_vectors.specs.declared.fault.VectorFault.{VectorFault}
 use Rattle.first_vectors.specs.declared.fault.VectorFault.TheVariants.{Memory, Unbuilt}
 use Rattle.first_vectors.specs.declared.row.Row.{Row}
 use Rattle.first_vectors.specs.declared.row.Row.TheVariants.{Values, End}
-use Rattle.first_vectors.specs.Fields.{◌>>=◌, table_of, two_of, time_of}
+use Rattle.first_vectors.specs.Fields.{◌>>=◌, name_in, table_of, two_of, time_of}
 
 -- the value of a byte 0 or 1
 abbrev pub value_of : ℕ → Option Logic
@@ -51,11 +51,11 @@ listed netlist [] = None
 listed netlist (name ∷ names) =
     if is_distinct (name ∷ names) then inputs_named netlist (name ∷ names) else None
 
--- the inputs that the second line lists
+-- the inputs whose names the fields of the second line say
 unfoldable pub inputs_of : Netlist → List (List ℕ) → Option (List ℕ)
 inputs_of netlist [] = None
-inputs_of netlist (word ∷ names) =
-    if bytes_eq word (codes "inputs") then listed netlist names else None
+inputs_of netlist (word ∷ fields) =
+    if bytes_eq word (codes "inputs") then listed netlist (map name_in fields) else None
 
 -- a last line, whose time is at least that of the line before: least is one more than that
 unfoldable pub end_row : ℕ → List ℕ → Option Row

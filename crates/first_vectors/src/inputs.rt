@@ -1,11 +1,12 @@
-ghost use Rattle.std.specs.Prelude.{◌≡◌, IsTrue, IfOk};
+ghost use Rattle.std.specs.Prelude.{◌≡◌, map, IsTrue, IfOk};
 ghost use Rattle.gate_net.specs.Sound.{IsSound};
 ghost use Rattle.name_table.specs.Names.{is_distinct};
-ghost use Rattle.first_vectors.specs.Fields.{fields_of};
+ghost use Rattle.first_vectors.specs.Fields.{fields_of, name_in};
 ghost use Rattle.first_vectors.specs.Reading.{input_names, input_named, listed, inputs_of, Gives};
 
 use crate::fault::VectorFault;
 use crate::fields::field_at;
+use flat_net::Bytes;
 use gate_net::Netlist;
 use name_table::NameTable;
 use std::alloc::{AllocError, Global};
@@ -31,17 +32,33 @@ fn input_in(table: &NameTable, netlist: &Netlist, name: &[u8]) -> Option<u32>
     netlist.inputs.as_slice().get(place).copied()
 }
 
+/// The name that a field says: an escaped name, which begins with `\`, has a space of its own at
+/// its end (IEEE 1364-2005, 3.7.1).
+fn name_in(alloc: Global, field: &[u8]) -> Result<Bytes, AllocError>
+    ensures { IfOk result (λ name. name ≡ name_in field.now) }
+{
+    let mut name = Vec::with_capacity(alloc, field.len() + 1)?;
+    name.extend_from_slice(field)?;
+    if field.first() == Some(&b'\\') {
+        name.push(b' ')?;
+    }
+    Ok(Bytes::from_vec(name))
+}
+
 fn listed_inputs(alloc: Global, netlist: &Netlist, names: &[u8]) -> Result<Vec<u32>, VectorFault>
     requires sound { IsSound netlist.now }
     requires distinct { IsTrue (is_distinct netlist.now.names) }
-    ensures { Gives (λ inputs. inputs.items) result (listed netlist.now (fields_of names.now)) }
+    ensures { Gives (λ inputs. inputs.items) result
+        (listed netlist.now (map name_in (fields_of names.now))) }
 {
     let table = input_table(alloc, netlist)?;
     let mut seen = NameTable::new(alloc);
     let mut inputs = Vec::new(alloc);
     let mut rest = names;
     loop {
-        let (name, others) = field_at(rest);
+        let (field, others) = field_at(rest);
+        let owned = name_in(alloc, field)?;
+        let name = owned.as_slice();
         let input = match input_in(&table, netlist, name) {
             Some(input) => input,
             None => return Err(VectorFault::Unbuilt),

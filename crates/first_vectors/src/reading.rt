@@ -63,7 +63,9 @@ fn stimulus_in(alloc: Global, text: &[u8], netlist: &Netlist) -> Result<Stimulus
 /// or more inputs of the netlist, each once, value lines of a time and a `0` or `1` for each listed
 /// input, at rising times, and at last `end` with a time that isn't below that of the line before.
 /// Fields are separated by single spaces; times are 1 to 20 decimal digits, at most 2 ^ 40 ticks;
-/// the last line may lack its line feed.
+/// the last line may lack its line feed. A field of the `inputs` line that begins with `\` is an
+/// escaped name (IEEE 1364-2005, 3.7.1). It names the input whose name is the field and one space,
+/// so `\abc` isn't `abc`; that space separates it from the next field too, or the line ends there.
 pub fn read_vectors(alloc: Global, text: &[u8], netlist: &Netlist) -> Result<Stimulus, VectorFault>
     requires sound { IsSound netlist.now }
     requires distinct { IsTrue (is_distinct netlist.now.names) }

@@ -10,7 +10,7 @@ use std::alloc::{AllocError, Global};
 use std::fmt::Write;
 use std::test::Fail;
 
-/// The nets of `module latch(q, qn, s, r)`, without its gates.
+/// The nets of `module latch(q, qn, s, r, \s+ )`, without its gates.
 fn latch(alloc: Global) -> Result<Netlist, AllocError>
     ensures sound { IfOk result (λ netlist. IsSound netlist) }
     ensures distinct { IfOk result (λ netlist. IsTrue (is_distinct netlist.names)) }
@@ -19,9 +19,10 @@ fn latch(alloc: Global) -> Result<Netlist, AllocError>
     let qn = Bytes::from_vec(Vec::from_slice(alloc, b"qn")?);
     let s = Bytes::from_vec(Vec::from_slice(alloc, b"s")?);
     let r = Bytes::from_vec(Vec::from_slice(alloc, b"r")?);
+    let escaped = Bytes::from_vec(Vec::from_slice(alloc, b"\\s+ ")?);
     Ok(Netlist {
-        names: NameList::from_vec(vec![in alloc; q, qn, s, r]?),
-        inputs: NetList::from_vec(vec![in alloc; 2, 3]?),
+        names: NameList::from_vec(vec![in alloc; q, qn, s, r, escaped]?),
+        inputs: NetList::from_vec(vec![in alloc; 2, 3, 4]?),
         outputs: NetList::from_vec(vec![in alloc; 0, 1]?),
         gates: GateList::from_vec(Vec::new(alloc)),
     })
@@ -94,6 +95,33 @@ fn texts_in_the_form_are_read(rt: HostRuntime) -> Result<(), Fail> {
             "vectors 1\ninputs s\nend 00001099511627776\n",
             "2 | end 1099511627776",
         ),
+    ];
+    for (text, expected) in rows {
+        assert_eq!(rt; answer(rt.alloc(), text)?.as_str(), expected, "at {text:?}");
+    }
+    Ok(())
+}
+
+#[test]
+fn escaped_names_end_with_their_space(rt: HostRuntime) -> Result<(), Fail> {
+    let rows = [
+        // The space that ends an escaped name separates it from the next field too.
+        (
+            "vectors 1\ninputs \\s+ r\n0 01\nend 1\n",
+            "4 3 | 0 01 | end 1",
+        ),
+        (
+            "vectors 1\ninputs r \\s+\n0 01\nend 1\n",
+            "3 4 | 0 01 | end 1",
+        ),
+        // A space at the end of the line, and two spaces in a row, make an empty field.
+        ("vectors 1\ninputs r \\s+ \n0 01\nend 1\n", "unbuilt"),
+        ("vectors 1\ninputs \\s+  r\n0 01\nend 1\n", "unbuilt"),
+        // No plain name is found with a backslash, and no escaped name without it.
+        ("vectors 1\ninputs \\r\nend 1\n", "unbuilt"),
+        ("vectors 1\ninputs s+\nend 1\n", "unbuilt"),
+        // No input twice.
+        ("vectors 1\ninputs \\s+ \\s+\n0 01\nend 1\n", "unbuilt"),
     ];
     for (text, expected) in rows {
         assert_eq!(rt; answer(rt.alloc(), text)?.as_str(), expected, "at {text:?}");
