@@ -1,2 +1,4 @@
 pub mod AnswerLemmas
+pub mod NetlistLaws
 pub mod RunClauses
+pub mod Stopping

@@ -4,28 +4,23 @@ use Rattle.std.specs.Prelude.{ℕ, List, [], length, Option, None, Some, Result,
 use Rattle.std.specs.Option.{ok_or}
 use Rattle.gate_net.specs.declared.netlist.Netlist.{Netlist}
 use Rattle.gate_net.specs.declared.stimulus.Stimulus.{Stimulus}
-use Rattle.first_netlist.specs.Reading.{netlist_of}
 use Rattle.first_vectors.specs.Reading.{stimulus_of}
 use Rattle.machine.specs.Run.{run}
 use Rattle.machine.specs.Trace.{trace}
 use Rattle.cfsim.specs.Words.{Call, call_of}
-use Rattle.cfsim.specs.Messages.{usage_line, cannot_read_line, limit_line, unbuilt_line, oscillates_line}
+use Rattle.cfsim.specs.Messages.{usage_line, cannot_read_line, limit_line, fault_line, unbuilt_line, oscillates_line}
+use Rattle.cfsim.specs.Netlists.{netlist_from}
+use Rattle.cfsim.specs.Refusals.{Refusal, Missing, TooLong, Faulty, Outside}
 
 pub record Answer : Type 0 where
   pub status : ℕ
   pub out : List ℕ
   pub err : List ℕ
 
--- why a file refuses the call: the shelf doesn't have it, it is too long, or it is outside its form
-pub data Refusal : Type 0 where
-  Missing : Refusal
-  TooLong : Refusal
-  Outside : Refusal
-
 -- what a file gives that may have so many bytes, and that is read so
-abbrev pub taken : {X : Type 0} → ℕ → (List ℕ → Option X) → Option (List ℕ) → Result X Refusal
+abbrev pub taken : {X : Type 0} → ℕ → (List ℕ → Result X Refusal) → Option (List ℕ) → Result X Refusal
 taken limit reading None = Err Missing
-taken limit reading (Some text) = if nat_lt limit (length text) then Err TooLong else ok_or (reading text) Outside
+taken limit reading (Some text) = if nat_lt limit (length text) then Err TooLong else reading text
 
 -- the longest netlist, and the longest text of vectors, in bytes
 abbrev pub netlist_limit : ℕ
@@ -39,15 +34,20 @@ abbrev pub pass_limit : ℕ
 pass_limit = 1000
 
 abbrev pub netlist_in : Option (List ℕ) → Result Netlist Refusal
-netlist_in file = taken netlist_limit netlist_of file
+netlist_in file = taken netlist_limit netlist_from file
+
+-- the stimulus of a text, where it is in its form
+abbrev pub stimulus_from : Netlist → List ℕ → Result Stimulus Refusal
+stimulus_from netlist text = ok_or (stimulus_of netlist text) Outside
 
 abbrev pub stimulus_in : Netlist → Option (List ℕ) → Result Stimulus Refusal
-stimulus_in netlist file = taken vectors_limit (stimulus_of netlist) file
+stimulus_in netlist file = taken vectors_limit (stimulus_from netlist) file
 
--- the answer of a file that refuses, where a file that is too long or outside its form has this status
+-- the answer of a file that refuses, where a file that the shelf has refuses with this status
 abbrev pub refused : Refusal → ℕ → List ℕ → Answer
 refused Missing status name = record { status = 1; out = []; err = cannot_read_line name }
 refused TooLong status name = record { status = status; out = []; err = limit_line name }
+refused (Faulty fault line) status name = record { status = status; out = []; err = fault_line name line fault }
 refused Outside status name = record { status = status; out = []; err = unbuilt_line name }
 
 -- the answer of a run: its trace, and whether it oscillated

@@ -7,7 +7,8 @@ ghost use Rattle.outside_io.specs.Outside.{Rose};
 ghost use Rattle.cfsim.specs.Answer.{netlist_in, stimulus_in};
 ghost use Rattle.cfsim.specs.Stops.{Tells, OnRead, UnlessRead};
 
-use first_netlist::{NetlistFault, read_netlist};
+use crate::line_fault::LineFault;
+use crate::netlists::netlist_from_text;
 use first_vectors::{VectorFault, read_vectors};
 use gate_net::{Netlist, Stimulus};
 use outside_io::{Shelf, TakeFault, read_whole};
@@ -28,6 +29,8 @@ pub enum Stop {
     Read,
     /// The file is longer than its limit.
     TooLong,
+    /// Something is wrong at a line of the file, counted from 1.
+    Faulty(LineFault, u32),
     /// The file is outside its form.
     Unbuilt,
 }
@@ -47,11 +50,7 @@ pub fn netlist_from<F: Shelf>(alloc: Global, shelf: &mut F, name: &str) -> Resul
         Err(TakeFault::Read) => Err(Stop::Read),
         Err(TakeFault::TooLong) => Err(Stop::TooLong),
         Err(TakeFault::Memory) => Err(Stop::Memory),
-        Ok(text) => match read_netlist(alloc, text.as_slice()) {
-            Ok(netlist) => Ok(netlist),
-            Err(NetlistFault::Memory) => Err(Stop::Memory),
-            Err(NetlistFault::Unbuilt) => Err(Stop::Unbuilt),
-        },
+        Ok(text) => netlist_from_text(alloc, text.as_slice()),
     }
 }
 

@@ -2,6 +2,8 @@
 #![tactic(auto)]
 
 mod files;
+mod line_fault;
+mod netlists;
 mod report;
 mod respond;
 mod run;

@@ -3,10 +3,11 @@
 ghost use Rattle.std.specs.Prelude.{◌≡◌, ◌<◌, ◌≤◌, ◌⊎◌, ◌++◌, [], codes, IfOk};
 ghost use Rattle.gate_net.specs.Sound.{IsSound, IsLawful};
 ghost use Rattle.cfsim.specs.Answer.{ran};
-ghost use Rattle.cfsim.specs.Messages.{cannot_read_line, limit_line, unbuilt_line, oscillates_line};
+ghost use Rattle.cfsim.specs.Messages.{cannot_read_line, limit_line, fault_line, unbuilt_line, oscillates_line};
 ghost use Rattle.cfsim.specs.Reports.{answer_of, Stopped};
 
 use crate::files::Stop;
+use crate::line_fault::LineFault;
 use crate::status::Status;
 use flat_net::Bytes;
 use gate_net::{Netlist, Stimulus};
@@ -47,6 +48,21 @@ fn too_long(alloc: Global, name: &str) -> Result<Bytes, AllocError>
     line(alloc, b"", name.as_bytes(), b": limit file\n")
 }
 
+/// A line about a line of a file.
+fn faulty(alloc: Global, name: &str, number: u32, fault: LineFault) -> Result<Bytes, AllocError>
+    ensures { IfOk result (λ text. text ≡ fault_line name.now number fault) }
+{
+    let mut buffer = Buffer::new();
+    let number = buffer.format(number).as_bytes();
+    let mut text = Vec::from_slice(alloc, name.as_bytes())?;
+    text.extend_from_slice(b":")?;
+    text.extend_from_slice(number)?;
+    text.extend_from_slice(b": ")?;
+    text.extend_from_slice(fault.message())?;
+    text.extend_from_slice(b"\n")?;
+    Ok(Bytes::from_vec(text))
+}
+
 fn unbuilt(alloc: Global, name: &str) -> Result<Bytes, AllocError>
     ensures { IfOk result (λ text. text ≡ unbuilt_line name.now) }
 {
@@ -74,7 +90,7 @@ fn refusal(alloc: Global, status: Status, err: Bytes) -> Report
     }
 }
 
-/// The report of a file that stopped the call. One that is too long or outside its form has the status given.
+/// The report of a file that stopped the call. One that could be read has the status given.
 pub fn stopped(alloc: Global, stop: Stop, status: u8, name: &str) -> Result<Report, AllocError>
     requires { status ≤ 8 }
     ensures { IfOk result (λ report. Stopped stop status name.now (answer_of report)) }
@@ -87,6 +103,10 @@ pub fn stopped(alloc: Global, stop: Stop, status: u8, name: &str) -> Result<Repo
         }
         Stop::TooLong => {
             let text = too_long(alloc, name)?;
+            Ok(refusal(alloc, Status::new(status), text))
+        }
+        Stop::Faulty(fault, number) => {
+            let text = faulty(alloc, name, number, fault)?;
             Ok(refusal(alloc, Status::new(status), text))
         }
         Stop::Unbuilt => {

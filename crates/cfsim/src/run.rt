@@ -1,10 +1,16 @@
 //! The top call.
 
-ghost use Rattle.std.specs.Prelude.{◌≡◌, ◌≤◌, ◌⊎◌, [], Some, None, IfSome, map, string_bytes};
+ghost use Rattle.std.specs.Prelude.{◌≡◌, ◌≤◌, ◌⊎◌, ℕ, List, [], length, Some, None, Err, IfSome, map, string_bytes};
+ghost use Rattle.v_lexer.specs.declared.fault.FaultKind.{FaultKind};
+ghost use Rattle.v_lexer.specs.declared.token.Token.{Token};
+ghost use Rattle.v_lexer.specs.Reading.{AreTokensOf, StopsAt};
+ghost use Rattle.v_tree.specs.declared.modules.Description.{Description};
 ghost use Rattle.outside_io.specs.Outside.{Rose, Gains, GainsPrefix};
 ghost use Rattle.cfsim.specs.Words.{call_of};
 ghost use Rattle.cfsim.specs.Messages.{usage_line, cannot_read_line, no_memory_line};
-ghost use Rattle.cfsim.specs.Answer.{answer};
+ghost use Rattle.cfsim.specs.Answer.{answer, netlist_limit, netlist_in};
+ghost use Rattle.cfsim.specs.Netlists.{fault_of, netlist_among, AreSpelled, IsRefusedAtToken};
+ghost use Rattle.cfsim.specs.Refusals.{Faulty};
 ghost use Rattle.cfsim.specs.Clauses.{IsAnswered, IsNamedBy, IsNextFile, GainsMessage};
 
 use crate::respond::{deliver, respond};
@@ -80,6 +86,18 @@ pub fn run<R: Threads + Sync, F: Shelf, O: Sink, E: Sink, G: Gate + Sync>(
     ensures exact { IfSome (F.files shelf.old) (λ files.
         (Rose (F.faults shelf.old) (F.faults shelf.new) → ⊥) → (Rose (O.faults out.old) (O.faults out.new) → ⊥) → (Rose (E.faults err.old) (E.faults err.new) → ⊥)
         → (result ≡ (answer (map string_bytes words.now) files).status) ⊎ (result ≡ 7)) }
+
+    // What the answer takes from the text of a netlist, said without the functions that read it. A text with a lexical
+    // fault is refused at its first one.
+    ensures lexical_fault { (text : List ℕ) (wrong : FaultKind) (line : ℕ) → length text ≤ netlist_limit → StopsAt text wrong line
+        → netlist_in (Some text) ≡ Err (Faulty (fault_of wrong) line) }
+    // A text whose tokens spell modules and primitives gives what these mean.
+    ensures tree { (text : List ℕ) (tokens : List Token) (ds : List Description) → length text ≤ netlist_limit → AreTokensOf text tokens → AreSpelled text tokens ds
+        → netlist_in (Some text) ≡ netlist_among ds }
+    // A text whose tokens spell none is refused at the line of one of them, as unsupported exactly where the grammar
+    // leaves such a token out.
+    ensures bad_token { (text : List ℕ) (tokens : List Token) → length text ≤ netlist_limit → AreTokensOf text tokens → ((ds : List Description) → AreSpelled text tokens ds → ⊥)
+        → IsRefusedAtToken text tokens (netlist_in (Some text)) }
 {
     let _ = rt;
     let _ = gate;

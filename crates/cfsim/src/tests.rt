@@ -1,4 +1,5 @@
 mod forms;
+mod grammar;
 
 use super::*;
 use outside_io::{Bytes, CallList, MemoryShelf, MemorySink, NamedFile, NamedFileList, StreamSink};
@@ -13,6 +14,12 @@ const LATCH: &str =
 const VECTORS: &str = "vectors 1\ninputs s r\n0 01\n10 11\n20 10\nend 30\n";
 
 const TRACE: &str = "0 q St1\n0 qn St0\n20 q St0\n20 qn St1\n";
+
+/// The latch with comments, attributes and an escaped name for `q`.
+const ESCAPED: &str =
+    "// a latch\n(* keep *) module latch(\\q+ , qn, s, \\r ); /* its\nports */ output \\q+ , qn; input s, r;\nnand (* of = \"*)\" *) (\\q+ , s, qn);\nnand \\2nd (qn, r, \\q+\t); // the second\nendmodule\n";
+
+const ESCAPED_TRACE: &str = "0 \\q+  St1\n0 qn St0\n20 \\q+  St0\n20 qn St1\n";
 
 const USAGE: &str =
     "usage: cfsim [--top NAME] [--delays min|typ|max] [--passes N] [--jobs N] [--drop] [--observed] [--dict] NETLIST VECTORS [FAULTS] | --demo N\n";
@@ -114,7 +121,17 @@ fn calls_have_their_answers(rt: HostRuntime) -> Result<(), Fail> {
         ),
         ("n.v v.txt", "", VECTORS, none, 3, "", "n.v: unbuilt\n"),
         ("n.v v.txt", LATCH, "", none, 4, "", "v.txt: unbuilt\n"),
-        ("v.txt n.v", LATCH, VECTORS, none, 3, "", "v.txt: unbuilt\n"),
+        ("n.v v.txt", ESCAPED, VECTORS, none, 0, ESCAPED_TRACE, ""),
+        ("n.v v.txt", "/*", "", none, 3, "", "n.v:1: open comment\n"),
+        (
+            "n.v x.txt",
+            "module",
+            "",
+            none,
+            3,
+            "",
+            "n.v:1: syntax error\n",
+        ),
         (
             "x.v v.txt",
             LATCH,
@@ -189,6 +206,26 @@ fn calls_have_their_answers(rt: HostRuntime) -> Result<(), Fail> {
         assert_eq!(rt; outcome.err.as_str(), err, "{words} {status}");
         assert!(rt; status != 2 || outcome.shelf_calls == 0, "{words}");
     }
+    Ok(())
+}
+
+/// The vectors are no netlist.
+#[test]
+fn the_first_word_names_the_netlist(rt: HostRuntime) -> Result<(), Fail> {
+    let outcome = call(&rt, rt.alloc(), "v.txt n.v", LATCH, VECTORS, (99, 99, 99))?;
+    assert_eq!(rt; outcome.err.as_str(), "v.txt:1: syntax error\n");
+    assert_eq!(rt; outcome.out.as_str(), "");
+    assert_eq!(rt; outcome.status, 3);
+    Ok(())
+}
+
+/// Comments and attributes change nothing, and an escaped name is printed with its backslash and its space.
+#[test]
+fn the_latch_with_an_escaped_name(rt: HostRuntime) -> Result<(), Fail> {
+    let outcome = call(&rt, rt.alloc(), "n.v v.txt", ESCAPED, VECTORS, (99, 99, 99))?;
+    assert_eq!(rt; outcome.err.as_str(), "");
+    assert_eq!(rt; outcome.out.as_str(), ESCAPED_TRACE);
+    assert_eq!(rt; outcome.status, 0);
     Ok(())
 }
 

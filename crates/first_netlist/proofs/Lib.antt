@@ -1,9 +1,4 @@
-pub mod Added
 pub mod Apart
 pub mod Each
 pub mod Places
-pub mod Same
 pub mod Sounds
-pub mod Grammar
-pub mod Loop
-pub mod Runs

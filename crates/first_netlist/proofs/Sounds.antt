@@ -19,17 +19,17 @@ use Rattle.first_netlist.specs.Meaning.{limit, distinct, each, net_names, names_
 use Rattle.first_netlist.proofs.Places.{place_within}
 
 -- the value of a step that found something
-pub bind_some : {A B : Type 0} (r : Option A) (f : A → Option B) (y : B) → (r >>= f) ≡ Some y → (x : A) × (r ≡ Some x) × (f x ≡ Some y)
+bind_some : {A B : Type 0} (r : Option A) (f : A → Option B) (y : B) → (r >>= f) ≡ Some y → (x : A) × (r ≡ Some x) × (f x ≡ Some y)
 bind_some (Some x) f y e = (x, refl, e)
 bind_some None f y e = absurd cc
 
 abbrev netlist_with : List (List ℕ) → List ℕ → List ℕ → List Gate → Netlist
 netlist_with names inputs outputs gates = record { names = names; inputs = inputs; outputs = outputs; gates = gates }
 
-abbrev pub some_of : {A : Type 0} → A → Option A
+abbrev some_of : {A : Type 0} → A → Option A
 some_of x = Some x
 
-pub some_is : {A : Type 0} (x y : A) → some_of x ≡ some_of y → x ≡ y
+some_is : {A : Type 0} (x y : A) → some_of x ≡ some_of y → x ≡ y
 some_is x y e = cc
 
 AreNets-cons : (count n : ℕ) (ns : List ℕ) → n < count → AreNets count ns → AreNets count (n ∷ ns)

@@ -1,8 +1,5 @@
 pub mod Steps
-pub mod Pieces
-pub mod Words
+pub mod FlatNames
 pub mod Declarations
-pub mod Modules
-pub mod Spelling
 pub mod Meaning
-pub mod Reading
+pub mod Form

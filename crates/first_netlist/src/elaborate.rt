@@ -205,7 +205,7 @@ fn ports_of(alloc: Global, module: &Module) -> Result<(Vec<u32>, Vec<u32>), Netl
 
 /// The netlist that the declarations mean.
 #[tactic(auto, unfolding(crate::specs::Meaning::meaning))]
-pub fn netlist_of(alloc: Global, module: &Module) -> Result<Netlist, NetlistFault>
+pub fn meaning(alloc: Global, module: &Module) -> Result<Netlist, NetlistFault>
     ensures { Gives (λ netlist. netlist) result (meaning (declared «module».now)) }
 {
     let nets = net_table(alloc, module)?;

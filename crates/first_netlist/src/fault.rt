@@ -3,12 +3,12 @@ ghost use Rattle.first_netlist.specs.declared.fault.NetlistFault.TheVariants.{Me
 
 use std::alloc::{AllocError, AllocFailed};
 
-/// Why a netlist could not be read.
+/// Why there is no netlist.
 #[derive(Clone, Copy, Debug, PartialEq, Eq)]
 pub enum NetlistFault {
     /// Memory ran out.
     Memory,
-    /// The text is outside the form.
+    /// The file is outside the form.
     Unbuilt,
 }
 

@@ -1,18 +1,15 @@
-//! The reader of the first netlist form: one flat module of nand gates.
+//! The netlist of a file of the first form: one flat module of nand gates.
 #![tactic(auto)]
 
 mod elaborate;
 mod fault;
-mod parse;
-mod pieces;
-mod read;
+mod form;
+mod names;
 mod tables;
-mod token;
 mod tree;
-mod words;
 
 pub use fault::NetlistFault;
-pub use read::read_netlist;
+pub use form::netlist_of;
 
 #[cfg(test)]
 mod tests;

@@ -12,7 +12,7 @@ use name_table::NameTable;
 use std::alloc::{AllocError, Global};
 
 /// A copy of a name.
-pub fn copy_of(alloc: Global, name: &Bytes) -> Result<Bytes, AllocError>
+fn copy_of(alloc: Global, name: &Bytes) -> Result<Bytes, AllocError>
     ensures { IfOk result (λ copy. copy ≡ name.now) }
 {
     Ok(Bytes::from_vec(Vec::from_slice(alloc, name.as_slice())?))

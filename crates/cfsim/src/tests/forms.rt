@@ -7,11 +7,11 @@ use std::test::Fail;
 use std::thread::Threads;
 
 /// Vectors for a netlist with an input `a`, which is 1.
-const ONE: &str = "vectors 1\ninputs a\n0 1\nend 0\n";
+pub const ONE: &str = "vectors 1\ninputs a\n0 1\nend 0\n";
 
 /// A call with these two texts has this status. With 0 the text is what it writes to the output, else to the errors;
 /// it writes nothing else.
-fn assert_answer(
+pub fn assert_answer(
     rt: &(impl Abort + Threads + Sync),
     alloc: Global,
     netlist: &str,
@@ -98,80 +98,38 @@ fn netlists_inside_the_form(rt: HostRuntime) -> Result<(), Fail> {
             0,
             "0 y StX\n",
         ),
+        // Comments, attributes and escaped names.
+        (
+            "module m(a); // a comment\ninput a; endmodule // another",
+            0,
+            "",
+        ),
+        ("module m(a); /* a comment */ input/**/a; endmodule", 0, ""),
+        ("(* a *) module m(a); input a; endmodule", 0, ""),
+        (
+            "module m(y, a); output y; input a; (* a = \"*)\", b *) nand (y, a); endmodule",
+            0,
+            "0 y St0\n",
+        ),
+        ("module \\m+ (\\a ); input a; endmodule", 0, ""),
+        (
+            "module m(\\y , a); output y; input \\a ; nand \\g/1 (y, a); endmodule",
+            0,
+            "0 y St0\n",
+        ),
+        (
+            "module m(\\y[0] , \\nand , a); output \\y[0] , \\nand ; input a; nand (\\y[0] , a), (\\nand , \\y[0] ); endmodule",
+            0,
+            "0 \\y[0]  St0\n0 \\nand  St1\n",
+        ),
+        (
+            "module m(y, a); output y; input a; wire \\g ; nand \\g+ (y, a); endmodule",
+            0,
+            "0 y St0\n",
+        ),
     ];
     for (netlist, status, text) in rows {
         assert_answer(&rt, rt.alloc(), netlist, ONE, status, text)?;
-    }
-    Ok(())
-}
-
-#[test]
-fn netlists_outside_the_form(rt: HostRuntime) -> Result<(), Fail> {
-    let netlists = [
-        // Headers, blanks and words.
-        "",
-        "module m",
-        "module m(a)",
-        "module m(a); input a;",
-        "module m(a); input a; endmodul",
-        "module m(a); input a; endmodule;",
-        "module m(a); input a; endmodule module n; endmodule",
-        "modulem(a); input a; endmodule",
-        "module (a); input a; endmodule",
-        "module m(a) input a; endmodule",
-        "module m(a); input a endmodule",
-        "module m(a,); input a; endmodule",
-        "module m(,a); input a; endmodule",
-        "module m(a b); input a, b; endmodule",
-        "module m(a);\x0binput a; endmodule",
-        "module m(a); // a comment\ninput a; endmodule",
-        "module m(a); /* a comment */ input a; endmodule",
-        "(* a *) module m(a); input a; endmodule",
-        // Names.
-        "module 1m(a); input a; endmodule",
-        "module $m(a); input a; endmodule",
-        "module nand(a); input a; endmodule",
-        "module m(strong0, a); input strong0, a; endmodule",
-        "module m(while, a); input while, a; endmodule",
-        "module m(\\a ); input \\a ; endmodule",
-        // Ports and wires.
-        "module m(a, a); input a; endmodule",
-        "module m(a, b); input a; endmodule",
-        "module m(a); input a; input a; endmodule",
-        "module m(a); input a, a; endmodule",
-        "module m(a); input a; output a; endmodule",
-        "module m(a); input a, b; endmodule",
-        "module m; input a; endmodule",
-        "module m(a, b); input a; inout b; endmodule",
-        "module m(a); input wire a; endmodule",
-        "module m(a); input [0:0] a; endmodule",
-        "module m(a); input a; wire a; wire a; endmodule",
-        "module m(a); input a; wire b, b; endmodule",
-        "module m(a); input a; wire; endmodule",
-        "module m(a); input a; tri b; endmodule",
-        "module m(a); input a; wire b = a; endmodule",
-        // Gates.
-        "module m(y, a); output y; input a; nand (y); endmodule",
-        "module m(y, a); output y; input a; nand (); endmodule",
-        "module m(y, a); output y; input a; nand g; endmodule",
-        "module m(y, a); output y; input a; nand (y, a),; endmodule",
-        "module m(y, a); output y; input a; nand (y, a,); endmodule",
-        "module m(y, a); output y; input a; wire b; nand (y, a) (b, a); endmodule",
-        "module m(y, a); output y; input a; nand #1 (y, a); endmodule",
-        "module m(y, a); output y; input a; nand (strong0, strong1) (y, a); endmodule",
-        "module m(y, a); output y; input a; nor (y, a); endmodule",
-        "module m(y, a); output y; input a; nand (y, 1); endmodule",
-        "module m(y, a); output y; input a; nand (y, b); endmodule",
-        "module m(y, a); output y; input a; nand (b, a); endmodule",
-        "module m(y, a); output y; input a; nand (y, a); nand (y, y); endmodule",
-        "module m(y, a); output y; input a; nand (y, a), (y, y); endmodule",
-        "module m(y, a); output y; input a; nand (a, y); endmodule",
-        "module m(y, a); output y; input a; nand a(y, a); endmodule",
-        "module m(y, a); output y; input a; wire b; nand g(y, a); nand g(b, a); endmodule",
-        "module m(y, a); output y; input a; nand g(y, a); wire g; endmodule",
-    ];
-    for netlist in netlists {
-        assert_answer(&rt, rt.alloc(), netlist, ONE, 3, "n.v: unbuilt\n")?;
     }
     Ok(())
 }
@@ -220,6 +178,36 @@ fn vectors_inside_the_form(rt: HostRuntime) -> Result<(), Fail> {
     ];
     for (vectors, text) in rows {
         assert_answer(&rt, rt.alloc(), LATCH, vectors, 0, text)?;
+    }
+    Ok(())
+}
+
+/// An escaped name of an input, which ends with a space of its own, between fields and at the end of the line.
+#[test]
+fn vectors_with_escaped_names(rt: HostRuntime) -> Result<(), Fail> {
+    let netlist =
+        "module m(\\y+ , \\a+ , b); output \\y+ ; input \\a+ , b; nand (\\y+ , \\a+ , b); endmodule";
+    let rows = [
+        (
+            "inputs \\a+ b\n0 10\n1 11\n",
+            0,
+            "0 \\y+  St1\n1 \\y+  St0\n",
+        ),
+        (
+            "inputs b \\a+\n0 10\n1 11\n",
+            0,
+            "0 \\y+  St1\n1 \\y+  St0\n",
+        ),
+        ("inputs b \\a+ \n0 10\n", 4, "v.txt: unbuilt\n"),
+        ("inputs \\a+  b\n0 10\n", 4, "v.txt: unbuilt\n"),
+        ("inputs a+ b\n0 10\n", 4, "v.txt: unbuilt\n"),
+        ("inputs \\a+ \\b\n0 10\n", 4, "v.txt: unbuilt\n"),
+        ("inputs \\a+ \\a+\n0 11\n", 4, "v.txt: unbuilt\n"),
+        ("inputs \\a\n0 1\n", 4, "v.txt: unbuilt\n"),
+    ];
+    for (lines, status, text) in rows {
+        let vectors = format!(in rt.alloc(); "vectors 1\n{lines}end 1\n")?;
+        assert_answer(&rt, rt.alloc(), netlist, vectors.as_str(), status, text)?;
     }
     Ok(())
 }

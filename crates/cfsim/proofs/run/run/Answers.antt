@@ -6,6 +6,7 @@ use Rattle.cfsim.specs.Words.{Call, call_of}
 use Rattle.cfsim.specs.Messages.{usage_line}
 use Rattle.cfsim.specs.Answer.{Answer, answer, with_netlist, netlist_in}
 use Rattle.cfsim.specs.Reports.{answer_of}
+use Rattle.cfsim.proofs.NetlistLaws as laws
 use Rattle.cfsim.proofs.RunClauses as clauses
 use Rattle.cfsim.proofs.RunClauses.{if_some, if_some_map, answer_no_call, answer_call, no_call_from, first_two, call_from, same_call, call_length, one_not_8, IsReported, reported_not_8, reported_cases, status_one, prefix_of_nothing, IsWritten}
 use Rattle.cfsim.proofs.run.run.Given as given
@@ -123,3 +124,32 @@ seven_not_8 e = absurd (omega arith)
 pub returns-in-Err-clause-unwritten_out : goal.returns-in-Err-clause-unwritten_out
 returns-in-Err-clause-unwritten_out g c e =
     if_some _ _ (λ files. prefix_of_nothing _ _ _ (c.deliver-in-Err.ensures.out_prefix (λ f. seven_not_8 (sym c.new-in-Err.ensures ∙ f)) e))
+
+-- ---- what a text gives as a netlist
+
+pub returns-then-not-is_call-clause-lexical_fault : goal.returns-then-not-is_call-clause-lexical_fault
+returns-then-not-is_call-clause-lexical_fault g c = laws.lexical_fault
+
+pub returns-then-not-is_call-clause-tree : goal.returns-then-not-is_call-clause-tree
+returns-then-not-is_call-clause-tree g c = laws.tree
+
+pub returns-then-not-is_call-clause-bad_token : goal.returns-then-not-is_call-clause-bad_token
+returns-then-not-is_call-clause-bad_token g c = laws.bad_token
+
+pub returns-in-Ok-clause-lexical_fault : goal.returns-in-Ok-clause-lexical_fault
+returns-in-Ok-clause-lexical_fault g c = laws.lexical_fault
+
+pub returns-in-Ok-clause-tree : goal.returns-in-Ok-clause-tree
+returns-in-Ok-clause-tree g c = laws.tree
+
+pub returns-in-Ok-clause-bad_token : goal.returns-in-Ok-clause-bad_token
+returns-in-Ok-clause-bad_token g c = laws.bad_token
+
+pub returns-in-Err-clause-lexical_fault : goal.returns-in-Err-clause-lexical_fault
+returns-in-Err-clause-lexical_fault g c = laws.lexical_fault
+
+pub returns-in-Err-clause-tree : goal.returns-in-Err-clause-tree
+returns-in-Err-clause-tree g c = laws.tree
+
+pub returns-in-Err-clause-bad_token : goal.returns-in-Err-clause-bad_token
+returns-in-Err-clause-bad_token g c = laws.bad_token

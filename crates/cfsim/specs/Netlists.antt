@@ -1,0 +1,80 @@
+-- What the text of a netlist gives: its tokens, their tree, and the netlist of that.
+use Rattle.std.specs.Prelude.{◌≡◌, ℕ, List, slice_get, Option, Some, None, Result, Ok, Err, if◌then◌else◌}
+use Rattle.std.specs.Option.{ok_or, option_map_or}
+use Rattle.gate_net.specs.declared.netlist.Netlist.{Netlist}
+use Rattle.first_netlist.specs.Form.{netlist_of}
+use Rattle.v_lexer.specs.declared.token.Token.{Token}
+use Rattle.v_lexer.specs.declared.fault.FaultKind.{FaultKind}
+use Rattle.v_lexer.specs.declared.fault.FaultKind.TheVariants as kind
+use Rattle.v_lexer.specs.declared.fault.LexFault.{LexFault}
+use Rattle.v_lexer.specs.declared.fault.LexFault.TheVariants as lex
+use Rattle.v_lexer.specs.Tokens.{tokens_of}
+use Rattle.v_tree.specs.declared.modules.Description.{Description}
+use Rattle.v_tree.specs.Fit.{AreFit, IsFitDescription}
+use Rattle.v_tree.specs.Spelling.{spelling}
+use Rattle.v_tree.specs.Tree.{modules_among, udps_among}
+use Rattle.v_tree.specs.Written.{AreWritten, slice_of}
+use Rattle.v_parser.specs.declared.fault.ParseFault.{ParseFault}
+use Rattle.v_parser.specs.declared.fault.ParseFault.TheVariants as refused
+use Rattle.v_parser.specs.Input.{Outcome, is_left_out}
+use Rattle.v_parser.specs.Reading.{descriptions_of}
+use Rattle.cfsim.specs.declared.line_fault.LineFault.{LineFault}
+use Rattle.cfsim.specs.declared.line_fault.LineFault.TheVariants.{BadByte, OpenComment, OpenString, BadNumber, SyntaxError, Unsupported}
+use Rattle.cfsim.specs.Refusals.{Refusal, Faulty, Outside}
+
+-- a lexical fault; want of memory is none that a text has
+abbrev pub lexical : LexFault → Refusal
+lexical (lex.BadByte line) = Faulty BadByte line
+lexical (lex.OpenComment line) = Faulty OpenComment line
+lexical (lex.OpenString line) = Faulty OpenString line
+lexical (lex.BadNumber line) = Faulty BadNumber line
+lexical lex.Memory = Outside
+
+-- the line of a token
+abbrev pub line_of : List Token → ℕ → ℕ
+line_of tokens n = option_map_or (λ (token : Token). token.line) (slice_get tokens n) 0
+
+-- a bad token; want of memory is none that tokens have
+abbrev pub grammatical : List Token → ParseFault → Refusal
+grammatical tokens (refused.Syntax n) = Faulty SyntaxError (line_of tokens n)
+grammatical tokens (refused.Unsupported n) = Faulty Unsupported (line_of tokens n)
+grammatical tokens refused.Memory = Outside
+
+-- the netlist of the modules and primitives of a text
+abbrev pub netlist_among : List Description → Result Netlist Refusal
+netlist_among ds = ok_or (netlist_of (modules_among ds) (udps_among ds)) Outside
+
+-- the netlist of what was read of tokens
+abbrev pub netlist_read : {Rest : Type 0} → List Token → Result (List Description × Rest) ParseFault → Result Netlist Refusal
+netlist_read tokens (Ok read) = netlist_among read.0
+netlist_read tokens (Err fault) = Err (grammatical tokens fault)
+
+abbrev pub netlist_lexed : List ℕ → Result (List Token) LexFault → Result Netlist Refusal
+netlist_lexed text (Ok tokens) = netlist_read tokens (descriptions_of text tokens)
+netlist_lexed text (Err fault) = Err (lexical fault)
+
+-- the netlist of a text: a lexical fault comes before a bad token, and that before what isn't built
+unfoldable pub netlist_from : List ℕ → Result Netlist Refusal
+netlist_from text = netlist_lexed text (tokens_of text)
+
+-- ---- the same, said without reading
+
+-- a lexical fault by its kind
+abbrev pub fault_of : FaultKind → LineFault
+fault_of kind.BadByte = BadByte
+fault_of kind.OpenComment = OpenComment
+fault_of kind.OpenString = OpenString
+fault_of kind.BadNumber = BadNumber
+
+-- the tokens of the text are those with which the modules and primitives are written
+pub record AreSpelled (text : List ℕ) (tokens : List Token) (ds : List Description) : Type 0 where
+  pub written : AreWritten text 0 tokens (spelling ds)
+  pub fit : AreFit IsFitDescription ds
+
+-- what is wrong with a token that is refused
+abbrev pub fault_at : List ℕ → Token → LineFault
+fault_at text token = if is_left_out token.kind (slice_of text token) then Unsupported else SyntaxError
+
+-- the text is refused at the line of one of its tokens
+abbrev pub IsRefusedAtToken : List ℕ → List Token → Result Netlist Refusal → Type 0
+IsRefusedAtToken text tokens result = (n : ℕ) × (token : Token) × (slice_get tokens n ≡ Some token) × (result ≡ Err (Faulty (fault_at text token) token.line))

@@ -1,0 +1,363 @@
+//! Netlists that the grammar refuses, and those that it accepts but that aren't built yet.
+
+use super::forms::{ONE, assert_answer};
+use std::alloc::Global;
+use std::process::Abort;
+use std::test::Fail;
+use std::thread::Threads;
+
+/// Each netlist is refused with the line and the kind of what is wrong with it.
+fn assert_refused(
+    rt: &(impl Abort + Threads + Sync),
+    alloc: Global,
+    rows: &[(&str, &str)],
+) -> Result<(), Fail> {
+    for (netlist, wrong) in rows {
+        let text = format!(in alloc; "n.v:{wrong}\n")?;
+        assert_answer(rt, alloc, netlist, ONE, 3, text.as_str())?;
+    }
+    Ok(())
+}
+
+/// They come before a bad token that stands earlier.
+#[test]
+fn lexical_faults(rt: HostRuntime) -> Result<(), Fail> {
+    let rows = [
+        (
+            "module m(y);\noutput y;\n/* open\nendmodule\n",
+            "3: open comment",
+        ),
+        ("module m;\n(* open\nendmodule\n", "2: open comment"),
+        ("module m;\nendmodule \"open\n\"", "2: open string"),
+        (
+            "module m(y); wire [0:99999999999] a;\nendmodule\n",
+            "1: bad number",
+        ),
+        (
+            "module m;\nwire #2147483648 a;\nendmodule\n",
+            "2: bad number",
+        ),
+        ("module m;\nassign a = 4'b12;\nendmodule\n", "2: bad number"),
+        (
+            "module m;\nassign a = 129'b1;\nendmodule\n",
+            "2: bad number",
+        ),
+        ("module m;\nassign a = 'q1;\nendmodule\n", "2: bad number"),
+        ("module m;\nassign a = 'b;\nendmodule\n", "2: bad number"),
+        (
+            "module m;\nassign a = 'h1_0000_0000;\nendmodule\n",
+            "2: bad number",
+        ),
+        ("module m;\n\nwire \x01a;\nendmodule\n", "3: bad byte"),
+        ("module m; // é\nwire é;\nendmodule\n", "2: bad byte"),
+        ("module m;\nwire \\ a;\nendmodule\n", "2: bad byte"),
+        ("`1\nmodule m; endmodule\n", "1: bad byte"),
+        (
+            "primitive p(q, a);\noutput q; input a;\ntable\n0 : 2;\nendtable endprimitive\n",
+            "4: bad byte",
+        ),
+        ("module module;\nendmodule /* open\n", "2: open comment"),
+        ("always\nalways\nwire \x7f;\n", "3: bad byte"),
+    ];
+    assert_refused(&rt, rt.alloc(), rows.as_slice())
+}
+
+#[test]
+fn headers_outside_the_grammar(rt: HostRuntime) -> Result<(), Fail> {
+    let rows = [
+        ("wire a;\nmodule m; endmodule\n", "1: syntax error"),
+        ("module m; endmodule\n;", "2: syntax error"),
+        ("module m; endmodule\nendmodule", "2: syntax error"),
+        ("module m", "1: syntax error"),
+        ("module m\n\n", "3: syntax error"),
+        ("module m(a)", "1: syntax error"),
+        ("module (a); input a; endmodule", "1: syntax error"),
+        ("module 1m(a); input a; endmodule", "1: syntax error"),
+        ("module $m(a); input a; endmodule", "1: syntax error"),
+        ("module nand(a); input a; endmodule", "1: syntax error"),
+        ("modulem(a); input a; endmodule", "1: syntax error"),
+        ("module m(a) input a; endmodule", "1: syntax error"),
+        ("module m(a,); input a; endmodule", "1: syntax error"),
+        ("module m(,a); input a; endmodule", "1: syntax error"),
+        ("module m(a b); input a, b; endmodule", "1: syntax error"),
+        ("module m\n(a, b;\nendmodule\n", "2: syntax error"),
+        (
+            "module m(strong0, a); input strong0, a; endmodule",
+            "1: syntax error",
+        ),
+        (
+            "module m(while, a); input while, a; endmodule",
+            "1: unsupported",
+        ),
+        (
+            "module m(input a,\noutput);\nendmodule\n",
+            "2: syntax error",
+        ),
+        ("module m(input [3] a);\nendmodule\n", "1: syntax error"),
+        ("module m(a,\ninput b);\nendmodule\n", "2: syntax error"),
+        ("module m(input\nreg a);\nendmodule\n", "2: unsupported"),
+        (
+            "module m\n#(parameter w = 1) (a);\nendmodule\n",
+            "2: syntax error",
+        ),
+        ("module m(.a(b));\nendmodule\n", "1: syntax error"),
+        (
+            "`timescale 1ns/1ns\nmodule m; endmodule\n",
+            "1: unsupported",
+        ),
+    ];
+    assert_refused(&rt, rt.alloc(), rows.as_slice())
+}
+
+#[test]
+fn declarations_outside_the_grammar(rt: HostRuntime) -> Result<(), Fail> {
+    let rows = [
+        ("module m(a); input a;", "1: syntax error"),
+        ("module m(a); input a endmodule", "1: syntax error"),
+        ("module m(a);\ninput a,;\nendmodule\n", "2: syntax error"),
+        ("module m(a);\ninput reg a;\nendmodule\n", "2: unsupported"),
+        ("module m(a); input a; wire; endmodule", "1: syntax error"),
+        ("module m;\nwire [3:0;\nendmodule\n", "2: syntax error"),
+        ("module m;\nwire [3:-1] a;\nendmodule\n", "2: syntax error"),
+        (
+            "module m;\nwire (strong0)\na;\nendmodule\n",
+            "2: syntax error",
+        ),
+        (
+            "module m;\nwire\nsigned [3:0] a;\nendmodule\n",
+            "3: unsupported",
+        ),
+        ("module m;\nwire a, b\n= c;\nendmodule\n", "3: syntax error"),
+        (
+            "module m;\nwire a = b, c\n;\nendmodule\n",
+            "3: syntax error",
+        ),
+        (
+            "module m;\ntrireg (tiny) a;\nendmodule\n",
+            "2: syntax error",
+        ),
+        ("module m;\ntrireg a\n= b;\nendmodule\n", "3: syntax error"),
+        ("module m;\nassign a;\nendmodule\n", "2: syntax error"),
+        ("module m;\nassign 1 = a;\nendmodule\n", "2: syntax error"),
+        (
+            "module m;\nassign {a,\n1} = b;\nendmodule\n",
+            "3: syntax error",
+        ),
+        (
+            "module m;\nassign a = b\n+ c;\nendmodule\n",
+            "3: syntax error",
+        ),
+        ("module m;\nassign a = {};\nendmodule\n", "2: syntax error"),
+        (
+            "module m;\nassign a[b] = c;\nendmodule\n",
+            "2: syntax error",
+        ),
+        ("module m;\nassign a =\n1.5;\nendmodule\n", "3: unsupported"),
+        ("module m;\nassign a =\n1e3;\nendmodule\n", "3: unsupported"),
+        (
+            "module m;\nassign a =\n\"b\";\nendmodule\n",
+            "3: syntax error",
+        ),
+        (
+            "module m(y);\noutput y;\nalways @(y);\nendmodule\n",
+            "3: unsupported",
+        ),
+        ("module m;\nparameter w = 4;\nendmodule\n", "2: unsupported"),
+        ("module m;\nreg a;\nendmodule\n", "2: unsupported"),
+        ("module m;\nwire initial;\nendmodule\n", "2: unsupported"),
+        ("module m;\n\n`define a\nendmodule\n", "3: unsupported"),
+    ];
+    assert_refused(&rt, rt.alloc(), rows.as_slice())
+}
+
+#[test]
+fn gates_outside_the_grammar(rt: HostRuntime) -> Result<(), Fail> {
+    let rows = [
+        ("module m(y);\noutput y;\nendmodul", "3: syntax error"),
+        ("module m(a); input a; endmodul", "1: syntax error"),
+        ("module m(a); input a; endmodule;", "1: syntax error"),
+        (
+            "module m(y, a); output y; input a; nand (); endmodule",
+            "1: syntax error",
+        ),
+        (
+            "module m(y, a); output y; input a; nand g; endmodule",
+            "1: syntax error",
+        ),
+        (
+            "module m(y, a); output y; input a; nand (y, a),; endmodule",
+            "1: syntax error",
+        ),
+        (
+            "module m(y, a); output y; input a; nand (y, a,); endmodule",
+            "1: syntax error",
+        ),
+        (
+            "module m(y, a); output y; input a; wire b; nand (y, a) (b, a); endmodule",
+            "1: syntax error",
+        ),
+        ("module m;\nnand #\n(y, a);\nendmodule\n", "3: syntax error"),
+        (
+            "module m;\nnand #(1:2)\n(y, a);\nendmodule\n",
+            "2: syntax error",
+        ),
+        (
+            "module m;\nnand g\n[3:0] (y, a);\nendmodule\n",
+            "3: syntax error",
+        ),
+        ("module m;\nnand (.y(y));\nendmodule\n", "2: syntax error"),
+        (
+            "module m;\nnmos (strong0, strong1) (a, b, c);\nendmodule\n",
+            "2: syntax error",
+        ),
+        (
+            "module m;\ntran\n#1 (a, b);\nendmodule\n",
+            "3: syntax error",
+        ),
+        (
+            "module m;\npullup (supply1,\n) (a);\nendmodule\n",
+            "3: syntax error",
+        ),
+        (
+            "module m;\npulldown\n#1 (a);\nendmodule\n",
+            "3: syntax error",
+        ),
+        ("module m;\nbuf b(y, a)\nendmodule\n", "3: syntax error"),
+        ("module m;\nn u(.a(b),\nc);\nendmodule\n", "3: syntax error"),
+        ("module m;\nn u(b,\n.a(c));\nendmodule\n", "3: syntax error"),
+        ("module m;\nn u(.a(b\nc));\nendmodule\n", "3: syntax error"),
+        ("module m;\nn u(.a\n);\nendmodule\n", "3: syntax error"),
+        ("module m;\nn u(.1(a));\nendmodule\n", "2: syntax error"),
+        ("module m;\nn #(1, 2\nu(a);\nendmodule\n", "3: syntax error"),
+        ("module m;\nn u\n;\nendmodule\n", "3: syntax error"),
+    ];
+    assert_refused(&rt, rt.alloc(), rows.as_slice())
+}
+
+#[test]
+fn primitives_outside_the_grammar(rt: HostRuntime) -> Result<(), Fail> {
+    let rows = [
+        ("primitive p\n;\nendprimitive\n", "2: syntax error"),
+        ("primitive p(output q,\ninput);\n", "2: syntax error"),
+        (
+            "primitive p(output reg q = a, input b);\n",
+            "1: syntax error",
+        ),
+        ("primitive p(reg q, a);\n", "1: unsupported"),
+        ("primitive p(q, a);\noutput q; wire a;\n", "2: syntax error"),
+        (
+            "primitive p(q, a);\noutput q; input a;\nalways\n",
+            "3: unsupported",
+        ),
+        (
+            "primitive p(q, a);\ninitial q = 0;\noutput q;\n",
+            "3: syntax error",
+        ),
+        (
+            "primitive p(q, a);\noutput q; input a;\ninitial q = 1'b0\ntable\n",
+            "4: syntax error",
+        ),
+        (
+            "primitive p(q, a);\noutput q; input a;\ntable\n0 1;\nendtable endprimitive\n",
+            "4: syntax error",
+        ),
+        (
+            "primitive p(q, a);\noutput q; input a;\ntable\n: 1;\nendtable endprimitive\n",
+            "4: syntax error",
+        ),
+        (
+            "primitive p(q, a);\noutput q; input a;\ntable\n0 : ;\nendtable endprimitive\n",
+            "4: syntax error",
+        ),
+        (
+            "primitive p(q, a);\noutput q; input a;\ntable\n0 : 1\n: 0 : 1;\nendtable endprimitive\n",
+            "5: syntax error",
+        ),
+        (
+            "primitive p(q, a);\noutput q; input a;\ntable\n(0) : 1;\nendtable endprimitive\n",
+            "4: syntax error",
+        ),
+        (
+            "primitive p(q, a);\noutput q; input a;\ntable\n(0r) : 1;\nendtable endprimitive\n",
+            "4: syntax error",
+        ),
+        (
+            "primitive p(q, a);\noutput q; input a;\ntable\n0 : 1;\n",
+            "5: syntax error",
+        ),
+        (
+            "primitive p(q, a);\noutput q; input a;\ntable\n0 : 1;\nendtable\nendmodule\n",
+            "6: syntax error",
+        ),
+        ("module m;\ntable\n", "2: syntax error"),
+    ];
+    assert_refused(&rt, rt.alloc(), rows.as_slice())
+}
+
+#[test]
+fn netlists_outside_the_form(rt: HostRuntime) -> Result<(), Fail> {
+    let netlists = [
+        // Descriptions and headers.
+        "",
+        "// nothing\n",
+        "module m(a); input a; endmodule module n; endmodule",
+        "primitive p(q, a); output q; input a; table 0 : 1; 1 : 0; endtable endprimitive",
+        "primitive p(q, a); output q; input a; table 0 : 1; 1 : 0; endtable endprimitive module m(y, a); output y; input a; nand (y, a); endmodule",
+        "module m(y, a); output y; input a; nand (y, a); endmodule primitive p(output reg q = 1'b0, input c, d); table r 0 : ? : 0; (01) 1 : ? : 1; n ? : ? : -; ? * : ? : -; endtable endprimitive",
+        "primitive p(q, a); output q; reg q; input a; initial q = 1; table (?0) : ? : -; endtable endprimitive",
+        "module m(output y, input a); nand (y, a); endmodule",
+        "module m(output wire [3:0] y, z, input a); endmodule",
+        // Ports and nets.
+        "module m(a, a); input a; endmodule",
+        "module m(a, b); input a; endmodule",
+        "module m(a); input a; input a; endmodule",
+        "module m(a); input a, a; endmodule",
+        "module m(a); input a; output a; endmodule",
+        "module m(a); input a, b; endmodule",
+        "module m; input a; endmodule",
+        "module m(a, b); input a; inout b; endmodule",
+        "module m(a); input wire a; endmodule",
+        "module m(a); input [0:0] a; endmodule",
+        "module m(a); input a; wire a; wire a; endmodule",
+        "module m(a); input a; wire b, b; endmodule",
+        "module m(a); input a; wire b, \\b ; endmodule",
+        "module m(a); input a; tri b; endmodule",
+        "module m(a); input a; wor #1 b; supply0 c; endmodule",
+        "module m(a); input a; wire [3:0] b; endmodule",
+        "module m(a); input a; wire vectored [3:0] b; endmodule",
+        "module m(a); input a; wire #2 b; endmodule",
+        "module m(a); input a; wire (weak0, weak1) b; endmodule",
+        "module m(a); input a; wire b = a; endmodule",
+        "module m(a); input a; trireg (small) #(0, 0, 50) b; endmodule",
+        "module m(a); input a; assign #(1:2:3, 4) {b, c[1]} = {a, 2'b10, 3}; endmodule",
+        // Gates and instances.
+        "module m(y, a); output y; input a; nand (y); endmodule",
+        "module m(y, a); output y; input a; nand #1 (y, a); endmodule",
+        "module m(y, a); output y; input a; nand (strong0, strong1) (y, a); endmodule",
+        "module m(y, a); output y; input a; nor (y, a); endmodule",
+        "module m(y, a); output y; input a; nand (y, 1); endmodule",
+        "module m(y, a); output y; input a; nand (y, 1'b1); endmodule",
+        "module m(y, a); output y; input a; nand (y, a[0]); endmodule",
+        "module m(y, a); output y; input a; nand (y, {a}); endmodule",
+        "module m(y, a); output y; input a; nand (y, b); endmodule",
+        "module m(y, a); output y; input a; nand (b, a); endmodule",
+        "module m(y, a); output y; input a; nand (y, a); nand (y, y); endmodule",
+        "module m(y, a); output y; input a; nand (y, a), (y, y); endmodule",
+        "module m(y, a); output y; input a; nand (a, y); endmodule",
+        "module m(y, a); output y; input a; nand a(y, a); endmodule",
+        "module m(y, a); output y; input a; nand \\a (y, a); endmodule",
+        "module m(y, a); output y; input a; wire b; nand g(y, a); nand g(b, a); endmodule",
+        "module m(y, a); output y; input a; nand g(y, a); wire g; endmodule",
+        "module m(y, a); output y; input a; cmos #1 c(y, a, y, a); endmodule",
+        "module m(y, a); output y; input a; rtranif1 (y, a, a); tran (y, a); endmodule",
+        "module m(y, a); output y; input a; pullup (supply1) (y); endmodule",
+        "module m(y, a); output y; input a; pulldown (y); endmodule",
+        "module m(y, a); output y; input a; n u(y, , a); endmodule",
+        "module m(y, a); output y; input a; n #1 u(.p(y), .q()); endmodule",
+        "module m(y, a); output y; input a; n (y, a); endmodule",
+    ];
+    for netlist in netlists {
+        assert_answer(&rt, rt.alloc(), netlist, ONE, 3, "n.v: unbuilt\n")?;
+    }
+    Ok(())
+}

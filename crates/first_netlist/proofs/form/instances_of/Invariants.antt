@@ -1,0 +1,8 @@
+use Rattle.std.proofs.Common.{◌≡◌, drop}
+use Rattle.first_netlist.specs.Meaning.{each}
+use Rattle.first_netlist.specs.Form.{instance_of}
+use Rattle.first_netlist.proofs.Each.{collected}
+use Rattle.first_netlist.proofs.form.instances_of.Given as goal
+
+abbrev pub invariant-loop-terms : goal.invariant-loop-terms
+invariant-loop-terms l = each instance_of l.gates ≡ collected l.instances.items (each instance_of (drop l.terms-index l.gates))

@@ -1,0 +1,8 @@
+use Rattle.std.proofs.Common.{◌≡◌, drop}
+use Rattle.first_netlist.specs.Meaning.{each}
+use Rattle.first_netlist.specs.Declarations.{declared, declaring}
+use Rattle.first_netlist.specs.Form.{item_of}
+use Rattle.first_netlist.proofs.form.items_of.Given as goal
+
+abbrev pub invariant-loop-item : goal.invariant-loop-item
+invariant-loop-item l = declaring (declared l.fn.«module») (each item_of l.items) ≡ declaring (declared l.«module») (each item_of (drop l.item-index l.items))
