@@ -32,18 +32,26 @@ pub fn passes_comma(cursor: &mut Cursor<'_>) -> bool
     sees
 }
 
+/// The parts as a list of a tree, which takes no more room than they need.
+fn listed<P: Drop>(mut found: Vec<P>) -> Items<P>
+    ensures { result ≡ found.items }
+{
+    found.shrink_to_fit();
+    Items::from_vec(found)
+}
+
 /// Parts, each behind a comma, put behind those that were found.
 #[tactic(auto, unfolding(crate::specs::Input::commas, crate::specs::Input::commas_from))]
-pub fn commas<P: Part>(cursor: &mut Cursor<'_>, mut found: Items<P>) -> Result<Items<P>, ParseFault>
-    ensures { Reads (input.commas P.reader found cursor.old) result cursor.new }
+pub fn commas<P: Part>(cursor: &mut Cursor<'_>, mut found: Vec<P>) -> Result<Items<P>, ParseFault>
+    ensures { Reads (input.commas P.reader found.items cursor.old) result cursor.new }
 {
     for _ in 0..cursor.left() {
         if !passes_comma(cursor) {
-            return Ok(found);
+            return Ok(listed(found));
         }
         found.push(P::read(cursor)?)?;
     }
-    Ok(found)
+    Ok(listed(found))
 }
 
 /// One part or several, with commas between.
@@ -51,7 +59,7 @@ pub fn commas<P: Part>(cursor: &mut Cursor<'_>, mut found: Items<P>) -> Result<I
 pub fn separated<P: Part>(cursor: &mut Cursor<'_>) -> Result<Items<P>, ParseFault>
     ensures { Reads (input.separated P.reader cursor.old) result cursor.new }
 {
-    let mut found = Items::new(cursor.alloc());
+    let mut found = Vec::new(cursor.alloc());
     found.push(P::read(cursor)?)?;
     commas(cursor, found)
 }
@@ -74,17 +82,17 @@ pub trait Repeated: Part {
 #[tactic(auto, unfolding(crate::specs::Input::many_after, crate::specs::Input::many_from))]
 fn many_after<P: Repeated>(
     cursor: &mut Cursor<'_>,
-    mut found: Items<P>,
+    mut found: Vec<P>,
 ) -> Result<Items<P>, ParseFault>
-    ensures { Reads (input.many_after P.stops P.reader found cursor.old) result cursor.new }
+    ensures { Reads (input.many_after P.stops P.reader found.items cursor.old) result cursor.new }
 {
     for _ in 0..cursor.left() {
         if P::ends(cursor) {
-            return Ok(found);
+            return Ok(listed(found));
         }
         found.push(P::read(cursor)?)?;
     }
-    Ok(found)
+    Ok(listed(found))
 }
 
 /// Parts up to a token that ends them.
@@ -92,7 +100,7 @@ fn many_after<P: Repeated>(
 pub fn many<P: Repeated>(cursor: &mut Cursor<'_>) -> Result<Items<P>, ParseFault>
     ensures { Reads (input.many P.stops P.reader cursor.old) result cursor.new }
 {
-    let found = Items::new(cursor.alloc());
+    let found = Vec::new(cursor.alloc());
     many_after(cursor, found)
 }
 
@@ -101,7 +109,7 @@ pub fn many<P: Repeated>(cursor: &mut Cursor<'_>) -> Result<Items<P>, ParseFault
 pub fn some<P: Repeated>(cursor: &mut Cursor<'_>) -> Result<Items<P>, ParseFault>
     ensures { Reads (input.some P.stops P.reader cursor.old) result cursor.new }
 {
-    let mut found = Items::new(cursor.alloc());
+    let mut found = Vec::new(cursor.alloc());
     found.push(P::read(cursor)?)?;
     many_after(cursor, found)
 }

@@ -203,7 +203,7 @@ fn ansi_ports(cursor: &mut Cursor<'_>) -> Result<Ports, ParseFault>
 {
     cursor.skip(b'(')?;
     let first = ansi_port(cursor)?;
-    let none = Items::new(cursor.alloc());
+    let none = Vec::new(cursor.alloc());
     let others = commas(cursor, none)?;
     cursor.skip(b')')?;
     Ok(Ports::Ansi(first, others))

@@ -102,7 +102,7 @@ fn declared_header(cursor: &mut Cursor<'_>) -> Result<UdpPorts, ParseFault>
     let is_reg = flag(cursor, b"reg")?;
     let output = cursor.name()?;
     let start = start_if_there(cursor)?;
-    let none = Items::new(cursor.alloc());
+    let none = Vec::new(cursor.alloc());
     let inputs = commas(cursor, none)?;
     cursor.skip(b')')?;
     Ok(UdpPorts::Declared {
