@@ -9,7 +9,9 @@ use Rattle.v_lexer.specs.declared.fault.FaultKind.TheVariants as kind
 use Rattle.v_lexer.specs.declared.fault.LexFault.{LexFault}
 use Rattle.v_lexer.specs.declared.fault.LexFault.TheVariants as lex
 use Rattle.v_lexer.specs.Tokens.{tokens_of}
+use Rattle.v_tree.specs.declared.modules.Module.{Module}
 use Rattle.v_tree.specs.declared.modules.Description.{Description}
+use Rattle.v_tree.specs.declared.primitives.UdpDecl.{UdpDecl}
 use Rattle.v_tree.specs.Fit.{AreFit, IsFitDescription}
 use Rattle.v_tree.specs.Spelling.{spelling}
 use Rattle.v_tree.specs.Tree.{modules_among, udps_among}
@@ -40,9 +42,13 @@ grammatical tokens (refused.Syntax n) = Faulty SyntaxError (line_of tokens n)
 grammatical tokens (refused.Unsupported n) = Faulty Unsupported (line_of tokens n)
 grammatical tokens refused.Memory = Outside
 
+-- the netlist that modules and primitives mean, where it is built
+abbrev pub netlist_meant : List Module → List UdpDecl → Result Netlist Refusal
+netlist_meant modules udps = ok_or (netlist_of modules udps) Outside
+
 -- the netlist of the modules and primitives of a text
 abbrev pub netlist_among : List Description → Result Netlist Refusal
-netlist_among ds = ok_or (netlist_of (modules_among ds) (udps_among ds)) Outside
+netlist_among ds = netlist_meant (modules_among ds) (udps_among ds)
 
 -- the netlist of what was read of tokens
 abbrev pub netlist_read : {Rest : Type 0} → List Token → Result (List Description × Rest) ParseFault → Result Netlist Refusal

@@ -50,7 +50,7 @@ pub fn netlist_from<F: Shelf>(alloc: Global, shelf: &mut F, name: &str) -> Resul
         Err(TakeFault::Read) => Err(Stop::Read),
         Err(TakeFault::TooLong) => Err(Stop::TooLong),
         Err(TakeFault::Memory) => Err(Stop::Memory),
-        Ok(text) => netlist_from_text(alloc, text.as_slice()),
+        Ok(text) => netlist_from_text(alloc, text),
     }
 }
 
