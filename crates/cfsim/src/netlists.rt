@@ -82,7 +82,7 @@ pub fn netlist_from_text(alloc: Global, text: Bytes) -> Result<Netlist, Stop>
 {
     let file = tree_from_text(alloc, text.as_slice())?;
     drop(text);
-    match netlist_of(alloc, &file) {
+    match netlist_of(alloc, file) {
         Ok(netlist) => Ok(netlist),
         Err(fault) => Err(stop_of_tree(fault)),
     }

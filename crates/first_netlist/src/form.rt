@@ -299,14 +299,17 @@ pub fn declarations_in(
 /// Each net has its flat name in the top module: a plain name as it is, and another as it is written,
 /// `\`, its text and one space (IEEE 1364-2005, 3.7.1).
 ///
+/// The file is dropped when what it declares was copied.
+///
 /// `Unbuilt` comes exactly where the file is outside the form, unless memory runs out first.
 #[tactic(auto, unfolding(crate::specs::Form::netlist_of))]
-pub fn netlist_of(alloc: Global, file: &File) -> Result<Netlist, NetlistFault>
-    ensures exact { Gives (λ netlist. netlist) result (netlist_of file.now.modules file.now.udps) }
+pub fn netlist_of(alloc: Global, file: File) -> Result<Netlist, NetlistFault>
+    ensures exact { Gives (λ netlist. netlist) result (netlist_of file.modules file.udps) }
     ensures sound { IfOk result IsSound }
     ensures distinct { IfOk result (λ netlist. IsTrue (is_distinct netlist.names)) }
 {
     let words = ReservedWords::new(alloc)?;
     let module = declarations_in(alloc, &words, file.modules.as_slice(), file.udps.as_slice())?;
+    drop(file);
     meaning(alloc, &module)
 }
