@@ -361,3 +361,45 @@ fn netlists_outside_the_form(rt: HostRuntime) -> Result<(), Fail> {
     }
     Ok(())
 }
+
+/// A text with each rule of the grammar, a token behind each space.
+const TOKENS: &str =
+    "primitive dff ( q , c , d ) ; output q ; reg q ; input c , d ; initial q = 1'b0 ; table r 0 : ? : 0 ; ( 0 1 ) 1 : ? : 1 ; n ? : ? : - ; endtable endprimitive primitive inv ( output y = 1 , input a , b ) ; table 0 x : 1 ; endtable endprimitive module m ( y , a ) ; output tri [ 3 : 0 ] y ; input a , b ; wire ( strong0 , pull1 ) # ( 1 : 2 : 3 , 4 ) c = { a , y [ 1 ] , 2'b10 } , d = 3 ; wand vectored [ 7 : 0 ] # 5 e , f ; trireg ( small ) scalared [ 1 : 0 ] # ( 0 , 0 , 50 ) g ; assign ( weak0 , highz1 ) # 2 { h , y [ 3 : 2 ] } = k , l = 0 ; nand ( strong0 , strong1 ) # 1 g1 ( y , a , b ) , ( h , 1'b1 ) ; cmos # ( 2 ) ( y , a , b , c ) ; rtran t ( a , b ) ; pullup ( supply1 ) ( a ) ; pulldown ( strong0 , strong1 ) p ( b ) ; dff # 1 f1 ( a , , b ) , f2 ( . q ( a ) , . c ( ) ) ; sub ( strong1 , weak0 ) u ( ) ; endmodule macromodule sub ( input wire [ 2 : 1 ] s , output t , u ) ; endmodule module top ; endmodule module none ( ) ; endmodule";
+
+/// These lines and one more are refused at that one.
+fn assert_refused_at_end(
+    rt: &(impl Abort + Threads + Sync),
+    alloc: Global,
+    lines: &str,
+    last: &str,
+    line: u64,
+    wrong: &str,
+) -> Result<(), Fail> {
+    let netlist = format!(in alloc; "{lines}{last}")?;
+    let text = format!(in alloc; "n.v:{line}: {wrong}\n")?;
+    assert_answer(rt, alloc, netlist.as_str(), ONE, 3, text.as_str())
+}
+
+/// Each first part of a text is one: where it is cut, the end is out of place, and so is a word that the grammar
+/// leaves out.
+#[test]
+fn a_cut_text_is_refused_at_its_end(rt: HostRuntime) -> Result<(), Fail> {
+    let alloc = rt.alloc();
+    let mut lines = String::new(alloc);
+    let mut line: u64 = 1;
+    let mut table = false;
+    let mut whole = true;
+    for token in TOKENS.split(' ') {
+        let wrong = if table { "bad byte" } else { "unsupported" };
+        assert_refused_at_end(&rt, alloc, lines.as_str(), "always", line, wrong)?;
+        if !whole {
+            assert_refused_at_end(&rt, alloc, lines.as_str(), "", line, "syntax error")?;
+        }
+        lines.push_str(token)?;
+        lines.push_str("\n")?;
+        line = line.saturating_add(1);
+        table = (table || token == "table") && token != "endtable";
+        whole = token == "endprimitive" || token == "endmodule";
+    }
+    assert_answer(&rt, alloc, lines.as_str(), ONE, 3, "n.v: unbuilt\n")
+}
