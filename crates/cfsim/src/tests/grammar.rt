@@ -48,6 +48,7 @@ fn lexical_faults(rt: HostRuntime) -> Result<(), Fail> {
             "module m;\nassign a = 'h1_0000_0000;\nendmodule\n",
             "2: bad number",
         ),
+        ("module m(a);\x0binput a; endmodule", "1: bad byte"),
         ("module m;\n\nwire \x01a;\nendmodule\n", "3: bad byte"),
         ("module m; // é\nwire é;\nendmodule\n", "2: bad byte"),
         ("module m;\nwire \\ a;\nendmodule\n", "2: bad byte"),
