@@ -9,7 +9,7 @@ ghost use Rattle.cfsim.specs.Reports.{answer_of, Stopped};
 use crate::files::Stop;
 use crate::line_fault::LineFault;
 use crate::status::Status;
-use flat_net::Bytes;
+use byte_lists::Bytes;
 use gate_net::{Netlist, Stimulus};
 use itoa::Buffer;
 use machine::simulate;

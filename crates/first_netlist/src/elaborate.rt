@@ -12,7 +12,7 @@ use crate::tables::{
     push_others, table_of,
 };
 use crate::tree::{Instance, Module};
-use flat_net::{Bytes, NetList};
+use byte_lists::{Bytes, NetList};
 use gate_net::{Gate, GateList, Netlist};
 use indexmap::IndexSet;
 use name_table::NameTable;

@@ -11,7 +11,7 @@ use crate::elaborate::meaning;
 use crate::fault::NetlistFault;
 use crate::names::{flat_name, flat_names, name_if_there};
 use crate::tree::{Direction, Instance, InstanceList, Item, Module, add_item};
-use flat_net::{Bytes, NameList};
+use byte_lists::{Bytes, NameList};
 use gate_net::Netlist;
 use std::alloc::Global;
 use v_lexer::ReservedWords;

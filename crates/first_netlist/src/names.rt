@@ -4,7 +4,7 @@ ghost use Rattle.std.specs.Option.{option_map};
 ghost use Rattle.first_netlist.specs.FlatNames.{flat_name};
 ghost use Rattle.first_netlist.specs.Form.{named_flat, flat_names};
 
-use flat_net::Bytes;
+use byte_lists::Bytes;
 use std::alloc::{AllocError, Global};
 use v_lexer::ReservedWords;
 use v_tree::Name;

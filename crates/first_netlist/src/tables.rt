@@ -7,7 +7,7 @@ ghost use Rattle.first_netlist.specs.Meaning.{distinct, all_among, none_among, n
 
 use crate::fault::NetlistFault;
 use crate::tree::Instance;
-use flat_net::Bytes;
+use byte_lists::Bytes;
 use name_table::NameTable;
 use std::alloc::{AllocError, Global};
 

@@ -2,7 +2,7 @@ use super::*;
 use crate::elaborate::meaning;
 use crate::form::declarations_in;
 use crate::names::flat_name;
-use flat_net::Bytes;
+use byte_lists::Bytes;
 use sqlite_items::Items;
 use std::alloc::{AllocError, Global};
 use std::test::Fail;

@@ -1,7 +1,7 @@
 ghost use Rattle.std.specs.Prelude.{◌≡◌, OnOk};
 ghost use Rattle.first_netlist.specs.Declarations.{declared, with_item};
 
-use flat_net::{Bytes, NameList};
+use byte_lists::{Bytes, NameList};
 use std::alloc::AllocError;
 use std::marker::Model;
 

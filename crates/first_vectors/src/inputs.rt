@@ -6,7 +6,7 @@ ghost use Rattle.first_vectors.specs.Reading.{input_names, input_named, listed, 
 
 use crate::fault::VectorFault;
 use crate::fields::field_at;
-use flat_net::Bytes;
+use byte_lists::Bytes;
 use gate_net::Netlist;
 use name_table::NameTable;
 use std::alloc::{AllocError, Global};

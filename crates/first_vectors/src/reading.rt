@@ -10,7 +10,7 @@ use crate::fault::VectorFault;
 use crate::fields::{line_at, two_fields};
 use crate::inputs::inputs_in;
 use crate::rows::rows_in;
-use flat_net::NetList;
+use byte_lists::NetList;
 use gate_net::{Netlist, Stimulus, ValueLineList};
 use std::alloc::Global;
 

@@ -3,7 +3,7 @@ ghost use Rattle.gate_net.specs.Sound.{IsSound};
 ghost use Rattle.name_table.specs.Names.{is_distinct};
 
 use super::*;
-use flat_net::{Bytes, NameList, NetList};
+use byte_lists::{Bytes, NameList, NetList};
 use gate_net::{GateList, Netlist, Stimulus};
 use level_range::Logic;
 use std::alloc::{AllocError, Global};

@@ -1,6 +1,6 @@
 ghost use Rattle.std.specs.Prelude.{◌≡◌};
 
-use flat_net::{NameList, NetList};
+use byte_lists::{NameList, NetList};
 use std::marker::Model;
 
 /// A nand gate without delay: the net that it drives, and the nets that it reads, in terminal order.

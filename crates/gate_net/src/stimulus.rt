@@ -1,6 +1,6 @@
 ghost use Rattle.std.specs.Prelude.{◌≡◌};
 
-use flat_net::NetList;
+use byte_lists::NetList;
 use level_range::Logic;
 use std::marker::Model;
 

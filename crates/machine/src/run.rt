@@ -11,7 +11,7 @@ ghost use Rattle.machine.specs.Places.{IsPlace, FindsValues, AreEarlier, AreUpTo
 
 use crate::state::State;
 use crate::trace::push_step;
-use flat_net::Bytes;
+use byte_lists::Bytes;
 use gate_net::{Netlist, Stimulus, ValueLine};
 use level_range::Logic;
 use std::alloc::{AllocError, Global};

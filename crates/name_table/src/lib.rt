@@ -4,7 +4,7 @@
 ghost use Rattle.std.specs.Prelude.{◌≡◌, ◌↔◌, [], ◌∷◌, ◌++◌, length, not, if◌then◌else◌, IsTrue, IfOk, OnErr};
 ghost use Rattle.name_table.specs.Names.{is_among, is_distinct, place_of};
 
-use flat_net::{Bytes, NameList};
+use byte_lists::{Bytes, NameList};
 use indexmap::IndexSet;
 use std::alloc::{AllocError, Global};
 use std::marker::Model;

@@ -10,7 +10,7 @@ ghost use Rattle.v_parser.specs.Input as spec;
 ghost use Rattle.v_parser.specs.Input.{Reads};
 
 use crate::fault::ParseFault;
-use flat_net::Bytes;
+use byte_lists::Bytes;
 use std::alloc::{AllocError, Global};
 use std::marker::Model;
 use v_lexer::{

@@ -1,4 +1,4 @@
-use flat_net::Bytes;
+use byte_lists::Bytes;
 use sqlite_items::Items;
 
 /// Where a token stands: its line, counted from 1, and its number in the list of tokens, counted from 0.
