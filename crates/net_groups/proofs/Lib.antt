@@ -1,0 +1,5 @@
+pub mod Walks
+pub mod Halving
+pub mod Uniting
+pub mod Joining
+pub mod Flattening
