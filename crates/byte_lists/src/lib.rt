@@ -1,6 +1,6 @@
-//! Lists of bytes, of names and of numbers, each seen by contracts as a list.
+//! Vectors that contracts see as lists: bytes, names, numbers and others.
 #![tactic(auto)]
 
 mod lists;
 
-pub use lists::{Bytes, NameList, NetList};
+pub use lists::{Bytes, ListOf, NameList, NetList};
