@@ -3,3 +3,4 @@ pub mod Halving
 pub mod Uniting
 pub mod Joining
 pub mod Flattening
+pub mod Laws

@@ -1,0 +1,9 @@
+pub mod Decisions
+pub mod Distinct
+pub mod ElementDecisions
+pub mod IslandDecisions
+pub mod Somes
+pub mod IslandGroups
+pub mod SwitchEnds
+pub mod NameLemmas
+pub mod SoundnessDecisions

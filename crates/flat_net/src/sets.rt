@@ -1,0 +1,23 @@
+ghost use Rattle.std.specs.Prelude.{◌≡◌, [], true, false, IfOk, MatchOption};
+ghost use Rattle.flat_net.specs.Tests.{are_new};
+
+use indexmap::IndexSet;
+use std::alloc::{AllocError, Global};
+use std::hash::Hash;
+
+/// The set of the elements, or none where two of them are equal.
+pub(crate) fn distinct_set<T: Eq + Hash + Copy + Drop>(
+    alloc: Global,
+    elements: &[T],
+) -> Result<Option<IndexSet<T>>, AllocError>
+    ensures none { IfOk result (λ o. MatchOption o (are_new T.eq [] elements.now ≡ false) (λ _. are_new T.eq [] elements.now ≡ true)) }
+    ensures keys { IfOk result (λ o. MatchOption o (are_new T.eq [] elements.now ≡ false) (λ set. set.keys ≡ elements.now)) }
+{
+    let mut set = IndexSet::new(alloc);
+    for element in elements {
+        if !set.insert(*element)? {
+            return Ok(None);
+        }
+    }
+    Ok(Some(set))
+}
