@@ -1,12 +1,12 @@
 -- The test of an element decides whether it has the pins of its kind on nets of the netlist.
-use Rattle.std.proofs.Common.{◌≡◌, ◌+◌, ◌<◌, ◌≤◌, ◌^◌, ℕ, Bool, true, false, not, ◌&&◌, ◌==◌, leb, ltb, List, [], ◌∷◌, ◌++◌, length, Some, None, refl, sym, ap, subst, ◌∙◌, arith, cond, length-append}
-use Rattle.std.specs.Prelude.{Option, slice_get, if◌then◌else◌}
+use Rattle.std.proofs.Common.{◌≡◌, ◌+◌, ◌<◌, ◌≤◌, ◌^◌, ℕ, Bool, true, false, ◌&&◌, ◌==◌, leb, ltb, List, [], ◌∷◌, ◌++◌, length, Some, None, refl, sym, subst, arith, cond, length-append}
+use Rattle.std.specs.Prelude.{Option, slice_get}
 use Rattle.std.specs.Bool.{Decides}
-use Rattle.std.specs.Option.{IsSomeAnd, is_some}
-use Rattle.std.specs.List.{All, list_all}
+use Rattle.std.specs.Option.{is_some}
+use Rattle.std.specs.List.{All}
 use Rattle.std.proofs.lemmas.List.{get_or_append_left, get_or-append-add}
 use Rattle.std.proofs.lemmas.List.Elements.{All-nil, All-cons, All-head, All-tail, All-append}
-use Rattle.std.proofs.lemmas.Bool.Decides.{Decides-and, Decides-like, Decides-eqb, Decides-ltb, leb_tells, nat_tests}
+use Rattle.std.proofs.lemmas.Bool.Decides.{Decides-and, Decides-like, Decides-eqb, Decides-ltb, nat_tests}
 use Rattle.logic_tables.specs.declared.kinds.FoldKind.{FoldKind}
 use Rattle.logic_tables.specs.declared.kinds.FoldKind.TheVariants.{And, Nand, Or, Nor, Xor, Xnor, Buf, Not}
 use Rattle.udp_table.specs.Primitive.{Primitive}

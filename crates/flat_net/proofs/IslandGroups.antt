@@ -1,6 +1,6 @@
 -- The nets of each island are those that switches join, exactly where each net has the least net of its island's first one
 -- and stands with it.
-use Rattle.std.proofs.Common.{◌≡◌, ◌<◌, ◌≤◌, ℕ, Bool, ◌&&◌, ◌==◌, List, [], ◌∷◌, length, get_or, Some, None, refl, sym, ap, subst, ◌∙◌, arith}
+use Rattle.std.proofs.Common.{◌≡◌, ◌<◌, ◌≤◌, ℕ, ◌&&◌, ◌==◌, List, length, get_or, Some, sym, ap, subst, ◌∙◌, arith}
 use Rattle.std.specs.Prelude.{◌↔◌, Option, slice_get}
 use Rattle.std.specs.Bool.{Decides}
 use Rattle.std.specs.Option.{IsSomeAnd, option_map}
@@ -38,20 +38,20 @@ module _ (nets : List NetPart) (islands : List Island) (least : List ℕ) where
   Decides-joins_first : (number : ℕ) (island : Island) → Decides (joins_first island least number) (JoinsFirst number island)
   Decides-joins_first number island =
       Decides-some_and (λ first. some_and (λ other. is_at least number other) (slice_get least first)) (λ first. IsSomeAnd (slice_get least first) (HasLeast number))
-        (λ first. Decides-some_and (λ other. is_at least number other) (HasLeast number) (λ other. Decides-is_at least number other) (slice_get least first))
-        (slice_get island.nets 0)
+      (λ first. Decides-some_and (λ other. is_at least number other) (HasLeast number) (λ other. Decides-is_at least number other) (slice_get least first))
+      (slice_get island.nets 0)
 
   Decides-stands_with_least : (number : ℕ) (part : NetPart) → Decides (stands_with_least nets least number part) (StandsWithLeast number part)
   Decides-stands_with_least number part =
       Decides-some_and (λ other. some_and (λ (near : NetPart). near.island == part.island) (slice_get nets other)) (IsNear part)
-        (λ other. Decides-some_and (λ (near : NetPart). near.island == part.island) (λ (near : NetPart). near.island ≡ part.island) (λ near. Decides-eqb near.island part.island) (slice_get nets other))
-        (slice_get least number)
+      (λ other. Decides-some_and (λ (near : NetPart). near.island == part.island) (λ (near : NetPart). near.island ≡ part.island) (λ near. Decides-eqb near.island part.island) (slice_get nets other))
+      (slice_get least number)
 
   Decides-is_grouped : (number : ℕ) (part : NetPart) → Decides (is_grouped nets islands least number part) (IsGrouped number part)
   Decides-is_grouped number part =
       Decides-some_and (λ (island : Island). joins_first island least number && stands_with_least nets least number part) (λ (island : Island). JoinsFirst number island × StandsWithLeast number part)
-        (λ island. Decides-and (joins_first island least number) (stands_with_least nets least number part) (Decides-joins_first number island) (Decides-stands_with_least number part))
-        (slice_get islands part.island)
+      (λ island. Decides-and (joins_first island least number) (stands_with_least nets least number part) (Decides-joins_first number island) (Decides-stands_with_least number part))
+      (slice_get islands part.island)
 
   Decides-all_grouped : Decides (all_at (is_grouped nets islands least) nets) (EachAt IsGrouped nets)
   Decides-all_grouped = Decides-all_at (is_grouped nets islands least) IsGrouped Decides-is_grouped nets
@@ -129,7 +129,7 @@ module _ (nets : List NetPart) (islands : List Island) (least : List ℕ) where
           let same : island_of nets f.0 ≡ island_of nets a = island_at f.0 p.0 p.1 ∙ ap (λ (n : ℕ). Some n) p.2.0 ∙ sym (island_at a part e) in
           let leasts : get_or least f.0 0 ≡ get_or least a 0 = same_least (length nets) pairs least groups f.0 a f-lt lt ((joins f.0 a f-lt lt).0 same) in
           and_some (λ (first : ℕ). IsSomeAnd (slice_get least first) (HasLeast a)) (slice_get island.nets 0) f.0 f.1
-            (and_some (HasLeast a) (slice_get least f.0) (get_or least f.0 0) (least_at f.0 f-lt) (least_at a lt ∙ ap (λ (n : ℕ). Some n) (sym leasts)))
+          (and_some (HasLeast a) (slice_get least f.0) (get_or least f.0 0) (least_at f.0 f-lt) (least_at a lt ∙ ap (λ (n : ℕ). Some n) (sym leasts)))
 
       stands_near : (a : ℕ) (part : NetPart) → slice_get nets a ≡ Some part → StandsWithLeast a part
       stands_near a part e =
@@ -140,15 +140,15 @@ module _ (nets : List NetPart) (islands : List Island) (least : List ℕ) where
           let same : island_of nets a ≡ island_of nets (get_or least a 0) = (joins a (get_or least a 0) lt o-lt).1 (groups.each a lt).joined in
           let near : p.0.island ≡ part.island = same_number p.0.island part.island (sym (island_at (get_or least a 0) p.0 p.1) ∙ sym same ∙ island_at a part e) in
           and_some (IsNear part) (slice_get least a) (get_or least a 0) (least_at a lt)
-            (and_some (λ (n : NetPart). n.island ≡ part.island) (slice_get nets (get_or least a 0)) p.0 p.1 near)
+          (and_some (λ (n : NetPart). n.island ≡ part.island) (slice_get nets (get_or least a 0)) p.0 p.1 near)
 
       pub grouped_from_joins : EachAt IsGrouped nets
       grouped_from_joins a part e =
           let i = some_of (λ (island : Island). slice_get island.nets part.place ≡ Some a) (slice_get islands part.island) (placed a part e).place in
           and_some (λ (island : Island). JoinsFirst a island × StandsWithLeast a part) (slice_get islands part.island) i.0 i.1
-            (joins_first_net a part e i.0 i.1, stands_near a part e)
+          (joins_first_net a part e i.0 i.1, stands_near a part e)
 
     pub Decides-joins : (elements : List Element) → EachAt (IsNet islands) nets → EachAt (IsIsland nets elements) islands → Decides (all_at (is_grouped nets islands least) nets) Joins
     Decides-joins elements placed held =
         Decides-like (all_at (is_grouped nets islands least) nets) (λ (h : EachAt IsGrouped nets). joins_from_grouped h)
-          (λ (h : Joins). grouped_from_joins elements placed held h) Decides-all_grouped
+        (λ (h : Joins). grouped_from_joins elements placed held h) Decides-all_grouped

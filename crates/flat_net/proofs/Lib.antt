@@ -7,3 +7,5 @@ pub mod IslandGroups
 pub mod SwitchEnds
 pub mod NameLemmas
 pub mod SoundnessDecisions
+pub mod FlatLemmas
+pub mod PatchLemmas

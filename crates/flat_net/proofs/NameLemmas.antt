@@ -1,5 +1,5 @@
 -- A name that stands among those before it.
-use Rattle.std.proofs.Common.{◌≡◌, ◌+◌, ◌<◌, ℕ, zero, suc, Some, None, Bool, true, false, not, ◌&&◌, ◌||◌, List, [], ◌∷◌, ◌++◌, length, map, take, drop, get_or, refl, sym, ap, subst, ◌∙◌, arith, inl, inr}
+use Rattle.std.proofs.Common.{◌≡◌, ◌<◌, ℕ, zero, suc, Some, None, Bool, true, false, not, ◌&&◌, ◌||◌, List, [], ◌∷◌, length, take, get_or, refl, sym, ap, ◌∙◌, arith}
 use Rattle.std.specs.Bool.{Decides}
 use Rattle.std.specs.List.{Contains, list_any}
 use Rattle.std.specs.Str.{bytes_eq}
@@ -10,7 +10,7 @@ use Rattle.std.proofs.lemmas.Bool.Decides.{Decides-at, Decides-and, Decides-not,
 use Rattle.std.proofs.lemmas.List.{length-take-le, get_or-take}
 use Rattle.std.proofs.lemmas.Option.{slice_get_within, slice_get-get_or, get_or_from_slice_get}
 use Rattle.flat_net.specs.Lists.{AreDistinct}
-use Rattle.name_table.specs.Names.{is_among, is_distinct, same_name}
+use Rattle.name_table.specs.Names.{is_among, is_distinct}
 use Rattle.flat_net.proofs.Decisions.{Decides-list_any}
 
 is_among-any : (name : List ℕ) (names : List (List ℕ)) → is_among name names ≡ list_any (bytes_eq name) names
@@ -43,7 +43,7 @@ pub Decides-is_distinct : (names : List (List ℕ)) → Decides (is_distinct nam
 Decides-is_distinct [] = (λ _ i j x e f. absurd (let n : None ≡ Some x = e in cc), λ _. refl)
 Decides-is_distinct (name ∷ names) =
     Decides-like (not (is_among name names) && is_distinct names) (distinct-cons name names) (distinct-rest name names)
-      (Decides-and (not (is_among name names)) (is_distinct names) (Decides-not (is_among name names) (Decides-is_among name names)) (Decides-is_distinct names))
+    (Decides-and (not (is_among name names)) (is_distinct names) (Decides-not (is_among name names) (Decides-is_among name names)) (Decides-is_distinct names))
 
 repeated_at : (names : List (List ℕ)) (i : ℕ) (x : List ℕ) → slice_get names i ≡ Some x → Contains (take i names) x → AreDistinct names → ⊥
 repeated_at names i x e there distinct =

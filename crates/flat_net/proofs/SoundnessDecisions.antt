@@ -1,12 +1,12 @@
 -- The tests of parts decide whether they are sound.
-use Rattle.std.proofs.Common.{◌≡◌, ◌<◌, ◌≤◌, ℕ, Bool, true, false, not, ◌&&◌, ◌||◌, ◌==◌, leb, ltb, List, [], ◌∷◌, length, map, Some, None, refl, sym, ap, subst, ◌∙◌, inl, inr, ⊎_elim}
-use Rattle.std.specs.Prelude.{◌⊎◌, Option, IsSome, Result, Ok, Err, IfOk, slice_get}
+use Rattle.std.proofs.Common.{◌≡◌, ◌<◌, ◌≤◌, ℕ, Bool, true, false, not, ◌&&◌, ◌||◌, ◌==◌, leb, ltb, List, [], length, map, Some, None, refl, sym, ap, subst, ◌∙◌}
+use Rattle.std.specs.Prelude.{Option, IsSome, Result, Ok, Err, IfOk}
 use Rattle.std.specs.Bool.{Decides}
 use Rattle.std.specs.Option.{is_some}
 use Rattle.std.specs.List.{All, Contains, list_all, list_any}
 use Rattle.std.proofs.lemmas.List.{map-id, length-map}
 use Rattle.std.proofs.lemmas.List.Folds.{list_all-map}
-use Rattle.std.proofs.lemmas.Bool.Decides.{Decides-and, Decides-or, Decides-not, Decides-like, Decides-at, Decides-eqb, Decides-ltb}
+use Rattle.std.proofs.lemmas.Bool.Decides.{Decides-and, Decides-like, Decides-at, Decides-eqb, Decides-ltb}
 use Rattle.name_table.specs.Names.{is_distinct}
 use Rattle.flat_net.specs.declared.parts.Element.{Element}
 use Rattle.flat_net.specs.declared.parts.Find.{Find}
@@ -28,7 +28,7 @@ pair_of a b c d e f = cc
 Decides-same_pin : (a b : ℕ × ℕ) → Decides (same_pin a b) (a ≡ b)
 Decides-same_pin a b =
     Decides-like (same_pin a b) (λ (h : (a.0 ≡ b.0) × (a.1 ≡ b.1)). pair_of a.0 a.1 b.0 b.1 h.0 h.1) (λ (e : a ≡ b). (ap (λ (p : ℕ × ℕ). p.0) e, ap (λ (p : ℕ × ℕ). p.1) e))
-      (Decides-and (a.0 == b.0) (a.1 == b.1) (Decides-eqb a.0 b.0) (Decides-eqb a.1 b.1))
+    (Decides-and (a.0 == b.0) (a.1 == b.1) (Decides-eqb a.0 b.0) (Decides-eqb a.1 b.1))
 
 Decides-if_ends : {X : Type 0} (o : Option X) (test : Bool) (P : Type 0) → Decides test P → Decides (not (is_some o) || test) (IsSome o → P)
 Decides-if_ends None test P d = (λ _ h. absurd (let f : false ≡ true = h in cc), λ _. refl)
@@ -37,14 +37,14 @@ Decides-if_ends (Some x) test P d = (λ e _. d.0 e, λ f. d.1 (f refl))
 Decides-is_find : (count : ℕ) (found : Find) → Decides (is_find count found) (IsFind count found)
 Decides-is_find count found =
     Decides-like (is_find count found) (λ (h : (0 < length found.nets) × All (λ net. net < count) found.nets). record { filled = h.0; within = h.1 })
-      (λ (r : IsFind count found). (r.filled, r.within))
-      (Decides-and (ltb 0 (length found.nets)) (are_below count found.nets) (Decides-ltb 0 (length found.nets)) (Decides-are_below count found.nets))
+    (λ (r : IsFind count found). (r.filled, r.within))
+    (Decides-and (ltb 0 (length found.nets)) (are_below count found.nets) (Decides-ltb 0 (length found.nets)) (Decides-are_below count found.nets))
 
 Decides-are_distinct_nets : (count : ℕ) (nets : List ℕ) → Decides (are_distinct_nets count nets) (AreDistinctNets count nets)
 Decides-are_distinct_nets count nets =
     Decides-like (are_distinct_nets count nets) (λ (h : All (λ net. net < count) nets × AreDistinct nets). record { within = h.0; distinct = h.1 })
-      (λ (r : AreDistinctNets count nets). (r.within, r.distinct))
-      (Decides-and (are_below count nets) (are_new (λ a b. a == b) [] nets) (Decides-are_below count nets) (Decides-are_new (λ a b. a == b) Decides-eqb nets))
+    (λ (r : AreDistinctNets count nets). (r.within, r.distinct))
+    (Decides-and (are_below count nets) (are_new (λ a b. a == b) [] nets) (Decides-are_below count nets) (Decides-are_new (λ a b. a == b) Decides-eqb nets))
 
 Decides-ascii : (names : List (List ℕ)) → Decides (list_all is_ascii names) (All IsAscii names)
 Decides-ascii names = Decides-list_all is_ascii IsAscii (λ name. Decides-list_all (λ byte. ltb byte 128) (λ byte. byte < 128) (λ byte. Decides-ltb byte 128) name) names
@@ -57,12 +57,12 @@ module _ {X : Type 0} (name : X → List ℕ) (count : ℕ) (xs : List X) where
   Decides-are_names : Decides (are_names name count xs) (AreNames count (map name xs))
   Decides-are_names =
       Decides-like (are_names name count xs)
-        (λ (h : Named). record { all = length-map xs name ∙ h.0.0; ascii = h.0.1; distinct = h.1 })
-        (λ (r : AreNames count (map name xs)). ((sym (length-map xs name) ∙ r.all, r.ascii), r.distinct))
-        (Decides-and ((length xs == count) && list_all (λ x. is_ascii (name x)) xs) (is_distinct (map name xs))
-          (Decides-and (length xs == count) (list_all (λ x. is_ascii (name x)) xs) (Decides-eqb (length xs) count)
-            (Decides-at (list_all (λ x. is_ascii (name x)) xs) (list_all is_ascii (map name xs)) (sym (list_all-map is_ascii name xs)) (Decides-ascii (map name xs))))
-          (Decides-is_distinct (map name xs)))
+      (λ (h : Named). record { all = length-map xs name ∙ h.0.0; ascii = h.0.1; distinct = h.1 })
+      (λ (r : AreNames count (map name xs)). ((sym (length-map xs name) ∙ r.all, r.ascii), r.distinct))
+      (Decides-and ((length xs == count) && list_all (λ x. is_ascii (name x)) xs) (is_distinct (map name xs))
+      (Decides-and (length xs == count) (list_all (λ x. is_ascii (name x)) xs) (Decides-eqb (length xs) count)
+      (Decides-at (list_all (λ x. is_ascii (name x)) xs) (list_all is_ascii (map name xs)) (sym (list_all-map is_ascii name xs)) (Decides-ascii (map name xs))))
+      (Decides-is_distinct (map name xs)))
 
 Decides-own_names : (count : ℕ) (names : List (List ℕ)) → Decides (are_names (λ name. name) count names) (AreNames count names)
 Decides-own_names count names =
@@ -89,16 +89,16 @@ module _ (parts : Parts) where
   pub Decides-are_cells : Decides (are_cells parts) (AreCells parts)
   Decides-are_cells =
       Decides-like (are_cells parts)
-        (λ (h : CellsTested). record { few_nets = h.0.0.0.0; few_elements = h.0.0.0.1; elements = h.0.0.1; nets = h.0.1; islands = h.1 })
-        (λ (r : AreCells parts). ((((r.few_nets, r.few_elements), r.elements), r.nets), r.islands))
-        (Decides-and (few && elements_fit && nets_fit) islands_fit
-          (Decides-and (few && elements_fit) nets_fit
-            (Decides-and few elements_fit
-              (Decides-and (leb (length parts.nets) greatest_count) (leb (length parts.elements) greatest_count)
-                (Decides-leb (length parts.nets) greatest_count) (Decides-leb (length parts.elements) greatest_count))
-              (Decides-list_all (is_element (length parts.nets) parts.udps) (IsElement (length parts.nets) parts.udps) (Decides-is_element (length parts.nets) parts.udps) parts.elements))
-            (Decides-all_at (is_net parts.islands) (IsNet parts.islands) (Decides-is_net parts.islands) parts.nets))
-          (Decides-all_at (is_island parts.nets parts.elements) (IsIsland parts.nets parts.elements) (Decides-is_island parts.nets parts.elements) parts.islands))
+      (λ (h : CellsTested). record { few_nets = h.0.0.0.0; few_elements = h.0.0.0.1; elements = h.0.0.1; nets = h.0.1; islands = h.1 })
+      (λ (r : AreCells parts). ((((r.few_nets, r.few_elements), r.elements), r.nets), r.islands))
+      (Decides-and (few && elements_fit && nets_fit) islands_fit
+      (Decides-and (few && elements_fit) nets_fit
+      (Decides-and few elements_fit
+      (Decides-and (leb (length parts.nets) greatest_count) (leb (length parts.elements) greatest_count)
+      (Decides-leb (length parts.nets) greatest_count) (Decides-leb (length parts.elements) greatest_count))
+      (Decides-list_all (is_element (length parts.nets) parts.udps) (IsElement (length parts.nets) parts.udps) (Decides-is_element (length parts.nets) parts.udps) parts.elements))
+      (Decides-all_at (is_net parts.islands) (IsNet parts.islands) (Decides-is_net parts.islands) parts.nets))
+      (Decides-all_at (is_island parts.nets parts.elements) (IsIsland parts.nets parts.elements) (Decides-is_island parts.nets parts.elements) parts.islands))
 
   abbrev pins : List (ℕ × ℕ)
   pins = drive_pins parts.islands
@@ -109,27 +109,27 @@ module _ (parts : Parts) where
   Decides-are_driven : Decides (are_driven parts) (AreDriven parts)
   Decides-are_driven =
       Decides-like (are_driven parts)
-        (λ (h : AreDistinct pins × EachAt (λ element (e : Element). EachAt (λ pin (net : ℕ). Contains pins (element, pin)) e.outs) parts.elements). record { once = h.0; each = h.1 })
-        (λ (r : AreDriven parts). (r.once, r.each))
-        (Decides-and (are_new same_pin [] pins) (have_drives pins parts.elements)
-          (Decides-are_new same_pin Decides-same_pin pins)
-          (Decides-all_at (λ element (e : Element). all_at (λ pin (net : ℕ). list_any (same_pin (element, pin)) pins) e.outs)
-            (λ element (e : Element). EachAt (λ pin (net : ℕ). Contains pins (element, pin)) e.outs)
-            (λ element e. Decides-all_at (λ pin (net : ℕ). list_any (same_pin (element, pin)) pins) (λ pin (net : ℕ). Contains pins (element, pin))
-              (λ pin net. Decides-list_any same_pin Decides-same_pin (element, pin) pins) e.outs)
-            parts.elements))
+      (λ (h : AreDistinct pins × EachAt (λ element (e : Element). EachAt (λ pin (net : ℕ). Contains pins (element, pin)) e.outs) parts.elements). record { once = h.0; each = h.1 })
+      (λ (r : AreDriven parts). (r.once, r.each))
+      (Decides-and (are_new same_pin [] pins) (have_drives pins parts.elements)
+      (Decides-are_new same_pin Decides-same_pin pins)
+      (Decides-all_at (λ element (e : Element). all_at (λ pin (net : ℕ). list_any (same_pin (element, pin)) pins) e.outs)
+      (λ element (e : Element). EachAt (λ pin (net : ℕ). Contains pins (element, pin)) e.outs)
+      (λ element e. Decides-all_at (λ pin (net : ℕ). list_any (same_pin (element, pin)) pins) (λ pin (net : ℕ). Contains pins (element, pin))
+      (λ pin net. Decides-list_any same_pin Decides-same_pin (element, pin) pins) e.outs)
+      parts.elements))
 
   Decides-are_linked : Decides (are_linked parts) (AreLinked parts)
   Decides-are_linked =
       Decides-like (are_linked parts)
-        (λ (h : AreDistinct links × EachAt (λ element (e : Element). IsSome e.ends → Contains links element) parts.elements). record { once = h.0; each = h.1 })
-        (λ (r : AreLinked parts). (r.once, r.each))
-        (Decides-and (are_new (λ a b. a == b) [] links) (have_links links parts.elements)
-          (Decides-are_new (λ a b. a == b) Decides-eqb links)
-          (Decides-all_at (λ element (e : Element). not (is_some e.ends) || list_any (λ link. element == link) links)
-            (λ element (e : Element). IsSome e.ends → Contains links element)
-            (λ element e. Decides-if_ends e.ends (list_any (λ link. element == link) links) (Contains links element) (Decides-list_any (λ a b. a == b) Decides-eqb element links))
-            parts.elements))
+      (λ (h : AreDistinct links × EachAt (λ element (e : Element). IsSome e.ends → Contains links element) parts.elements). record { once = h.0; each = h.1 })
+      (λ (r : AreLinked parts). (r.once, r.each))
+      (Decides-and (are_new (λ a b. a == b) [] links) (have_links links parts.elements)
+      (Decides-are_new (λ a b. a == b) Decides-eqb links)
+      (Decides-all_at (λ element (e : Element). not (is_some e.ends) || list_any (λ link. element == link) links)
+      (λ element (e : Element). IsSome e.ends → Contains links element)
+      (λ element e. Decides-if_ends e.ends (list_any (λ link. element == link) links) (Contains links element) (Decides-list_any (λ a b. a == b) Decides-eqb element links))
+      parts.elements))
 
   finds_fit : Decides (list_all (is_find (length parts.nets)) parts.finds) (All (IsFind (length parts.nets)) parts.finds)
   finds_fit = Decides-list_all (is_find (length parts.nets)) (IsFind (length parts.nets)) (Decides-is_find (length parts.nets)) parts.finds
@@ -151,13 +151,13 @@ module _ (parts : Parts) where
   Decides-are_named : Decides (are_named parts) (AreNamed parts)
   Decides-are_named =
       Decides-like (are_named parts)
-        (λ (h : NamesTested). record { nets = h.0.0.0; elements = h.0.0.1; finds = h.0.1; find_names = h.1 })
-        (λ (r : AreNamed parts). (((r.nets, r.elements), r.finds), r.find_names))
-        (Decides-and (net_names_fit && element_names_fit && list_all (is_find (length parts.nets)) parts.finds) find_names_fit
-          (Decides-and (net_names_fit && element_names_fit) (list_all (is_find (length parts.nets)) parts.finds)
-            (Decides-and net_names_fit element_names_fit (Decides-own_names (length parts.nets) parts.net_names) (Decides-own_names (length parts.elements) parts.element_names))
-            finds_fit)
-          (Decides-are_names (λ (found : Find). found.name) (length parts.finds) parts.finds))
+      (λ (h : NamesTested). record { nets = h.0.0.0; elements = h.0.0.1; finds = h.0.1; find_names = h.1 })
+      (λ (r : AreNamed parts). (((r.nets, r.elements), r.finds), r.find_names))
+      (Decides-and (net_names_fit && element_names_fit && list_all (is_find (length parts.nets)) parts.finds) find_names_fit
+      (Decides-and (net_names_fit && element_names_fit) (list_all (is_find (length parts.nets)) parts.finds)
+      (Decides-and net_names_fit element_names_fit (Decides-own_names (length parts.nets) parts.net_names) (Decides-own_names (length parts.elements) parts.element_names))
+      finds_fit)
+      (Decides-are_names (λ (found : Find). found.name) (length parts.finds) parts.finds))
 
   abbrev Completed : Type 0
   Completed =
@@ -172,20 +172,20 @@ module _ (parts : Parts) where
   Decides-are_complete : Decides (are_complete parts) Completed
   Decides-are_complete =
       Decides-and (are_driven parts && are_linked parts && inputs_fit && outputs_fit) (are_named parts)
-        (Decides-and (are_driven parts && are_linked parts && inputs_fit) outputs_fit
-          (Decides-and (are_driven parts && are_linked parts) inputs_fit
-            (Decides-and (are_driven parts) (are_linked parts) Decides-are_driven Decides-are_linked)
-            (Decides-are_distinct_nets (length parts.nets) parts.inputs))
-          (Decides-are_distinct_nets (length parts.nets) parts.outputs))
-        Decides-are_named
+      (Decides-and (are_driven parts && are_linked parts && inputs_fit) outputs_fit
+      (Decides-and (are_driven parts && are_linked parts) inputs_fit
+      (Decides-and (are_driven parts) (are_linked parts) Decides-are_driven Decides-are_linked)
+      (Decides-are_distinct_nets (length parts.nets) parts.inputs))
+      (Decides-are_distinct_nets (length parts.nets) parts.outputs))
+      Decides-are_named
 
   -- what is left to test of parts whose cells and islands are sound
   pub Decides-sound : AreCells parts → AreJoined parts → Decides (are_complete parts) (IsSound parts)
   Decides-sound cells joined =
       Decides-like (are_complete parts)
-        (λ (h : Completed). record { cells = cells; joined = joined; drives = h.0.0.0.0; links = h.0.0.0.1; inputs = h.0.0.1; outputs = h.0.1; names = h.1 })
-        (λ (r : IsSound parts). ((((r.drives, r.links), r.inputs), r.outputs), r.names))
-        Decides-are_complete
+      (λ (h : Completed). record { cells = cells; joined = joined; drives = h.0.0.0.0; links = h.0.0.0.1; inputs = h.0.0.1; outputs = h.0.1; names = h.1 })
+      (λ (r : IsSound parts). ((((r.drives, r.links), r.inputs), r.outputs), r.names))
+      Decides-are_complete
 
 -- a test that is false refuses what it is needed for
 pub Decides-refused : {P Q : Type 0} (b : Bool) → Decides b P → b ≡ false → (Q → P) → Decides false Q

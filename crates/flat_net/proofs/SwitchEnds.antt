@@ -1,12 +1,12 @@
 -- The ends of bidirectional switches are nets of the netlist.
-use Rattle.std.proofs.Common.{◌<◌, ℕ, List, [], ◌∷◌, ◌++◌, length, Some, None}
+use Rattle.std.proofs.Common.{◌<◌, ℕ, List, [], ◌∷◌, ◌++◌, Some, None}
 use Rattle.std.specs.Prelude.{Option}
 use Rattle.std.specs.List.{All, cons_option}
 use Rattle.std.proofs.lemmas.List.Elements.{All-nil, All-cons, All-head, All-tail}
 use Rattle.udp_table.specs.Primitive.{Primitive}
 use Rattle.net_groups.specs.Joins.{AreBelow}
 use Rattle.flat_net.specs.declared.parts.Element.{Element}
-use Rattle.flat_net.specs.Elements.{IsElement, end_nets, pin_nets, switch_ends}
+use Rattle.flat_net.specs.Elements.{IsElement, end_nets, switch_ends}
 use Rattle.flat_net.proofs.ElementDecisions.{all_left}
 
 abbrev IsBelow : ℕ → ℕ × ℕ → Type 0
@@ -16,7 +16,7 @@ below_more : (count : ℕ) (ends : Option (ℕ × ℕ)) (pairs : List (ℕ × �
 below_more count None pairs h rest = rest
 below_more count (Some ends) pairs h rest =
     All-cons (IsBelow count) ends pairs
-      (All-head (λ net. net < count) ends.0 (ends.1 ∷ []) h, All-head (λ net. net < count) ends.1 [] (All-tail (λ net. net < count) ends.0 (ends.1 ∷ []) h)) rest
+    (All-head (λ net. net < count) ends.0 (ends.1 ∷ []) h, All-head (λ net. net < count) ends.1 [] (All-tail (λ net. net < count) ends.0 (ends.1 ∷ []) h)) rest
 
 pub AreBelow-switch_ends : (count : ℕ) (udps : List Primitive) (elements : List Element) → All (IsElement count udps) elements → AreBelow count (switch_ends elements)
 AreBelow-switch_ends count udps [] h = All-nil (IsBelow count)

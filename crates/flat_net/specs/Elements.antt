@@ -1,5 +1,5 @@
 -- The pins of elements, by their kinds (IEEE 1364-2005, 7.1.6).
-use Rattle.std.specs.Prelude.{◌≡◌, ℕ, ◌+◌, ◌<◌, ◌≤◌, ◌^◌, Bool, true, false, List, [], ◌∷◌, ◌++◌, length, Option, Some, None, slice_get}
+use Rattle.std.specs.Prelude.{◌≡◌, ℕ, ◌<◌, ◌≤◌, ◌^◌, Bool, true, false, List, [], ◌∷◌, ◌++◌, length, Option, Some, None, slice_get}
 use Rattle.std.specs.Option.{IsSomeAnd, is_some}
 use Rattle.std.specs.List.{All, filter_map}
 use Rattle.logic_tables.specs.declared.kinds.FoldKind.{FoldKind}

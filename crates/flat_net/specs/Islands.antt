@@ -1,5 +1,5 @@
 -- Islands: the nets that bidirectional switches join, what drives them, and how they settle.
-use Rattle.std.specs.Prelude.{◌≡◌, ◌⊎◌, ℕ, ◌<◌, List, length, map, Option, Some, None, slice_get}
+use Rattle.std.specs.Prelude.{◌≡◌, ◌⊎◌, ℕ, ◌<◌, List, length, map, Some, slice_get}
 use Rattle.std.specs.Option.{IsSomeAnd}
 use Rattle.std.specs.List.{All, AllZip, flat_map}
 use Rattle.level_range.specs.declared.range.Kind.{Kind}

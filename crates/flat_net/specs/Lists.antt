@@ -1,5 +1,5 @@
 -- What holds of the elements of a list by their numbers, and lists that name nothing twice.
-use Rattle.std.specs.Prelude.{◌≡◌, ℕ, List, Option, Some, slice_get}
+use Rattle.std.specs.Prelude.{◌≡◌, ℕ, List, Some, slice_get}
 
 -- the fact holds of each element with its number
 abbrev pub EachAt : {X : Type 0} → (ℕ → X → Type 0) → List X → Type 0

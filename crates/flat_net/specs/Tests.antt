@@ -1,5 +1,5 @@
 -- For the code alone: tests that answer whether the sentences of soundness hold.
-use Rattle.std.specs.Prelude.{ℕ, suc, ◌+◌, ◌^◌, Bool, true, false, not, ◌&&◌, ◌||◌, ◌==◌, nat_lt, nat_le, List, [], ◌∷◌, ◌++◌, length, map, Option, Some, None, slice_get, if◌then◌else◌}
+use Rattle.std.specs.Prelude.{ℕ, ◌+◌, ◌^◌, Bool, true, false, not, ◌&&◌, ◌||◌, ◌==◌, nat_lt, nat_le, List, [], ◌∷◌, ◌++◌, length, map, Option, Some, None, slice_get, if◌then◌else◌}
 use Rattle.std.specs.Option.{is_some}
 use Rattle.std.specs.List.{list_all, list_any, enumerate_from, zip}
 use Rattle.logic_tables.specs.declared.kinds.FoldKind.{FoldKind}
@@ -21,7 +21,7 @@ use Rattle.udp_table.specs.Primitive.{Primitive}
 use Rattle.flat_net.specs.declared.kinds.ElementKind.{ElementKind}
 use Rattle.flat_net.specs.declared.kinds.ElementKind.TheVariants.{Fold, Enable, Mos, Udp, Copy, Constant, Pull, Tran, Tranif}
 use Rattle.flat_net.specs.declared.parts.Element.{Element}
-use Rattle.flat_net.specs.Elements.{joins_ends, end_nets}
+use Rattle.flat_net.specs.Elements.{joins_ends}
 
 abbrev pub same_kind : Kind → Kind → Bool
 same_kind Plain Plain = true

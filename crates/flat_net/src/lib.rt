@@ -1,6 +1,8 @@
 //! The flat netlist: nets, elements and islands with their names, its soundness, and its patches.
 #![tactic(auto)]
 
+mod copies;
+mod flat;
 mod grouping;
 mod joints;
 mod kinds;
@@ -12,6 +14,7 @@ mod sets;
 mod soundness;
 
 pub use byte_lists::{Bytes, NameList, NetList};
+pub use flat::Flat;
 pub use kinds::{Cell, ElementKind, NetKind, Patch};
 pub use parts::{
     Drive, DriveList, Element, ElementList, ElementPartList, Find, FindList, Island, IslandList,

@@ -6,7 +6,7 @@ use udp_table::Udp;
 
 /// A net: its type, the level of its charge (1, 2 or 4 on a trireg, else 0), its delays in ticks, the
 /// island in which it stands, and its place there.
-#[derive(Debug, Drop)]
+#[derive(Clone, Copy, Debug)]
 pub struct NetPart {
     pub kind: NetKind,
     pub charge: u8,

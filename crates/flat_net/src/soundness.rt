@@ -84,10 +84,12 @@ fn are_named(alloc: Global, parts: &Parts) -> Result<bool, AllocError>
     let nets = parts.nets.as_slice().len();
     let elements = parts.elements.as_slice().len();
     let finds = parts.finds.as_slice();
-    Ok(are_names(alloc, nets, parts.net_names.as_slice())?
-        && are_names(alloc, elements, parts.element_names.as_slice())?
-        && are_finds(nets, finds)
-        && are_names(alloc, finds.len(), finds)?)
+    Ok(
+        are_names(alloc, nets, parts.net_names.as_slice())?
+            && are_names(alloc, elements, parts.element_names.as_slice())?
+            && are_finds(nets, finds)
+            && are_names(alloc, finds.len(), finds)?,
+    )
 }
 
 /// Whether drives, links, inputs, outputs and names are sound.
@@ -95,11 +97,13 @@ fn are_complete(alloc: Global, parts: &Parts) -> Result<bool, AllocError>
     ensures { IfOk result (λ complete. complete ≡ are_complete_of parts.now) }
 {
     let count = parts.nets.as_slice().len();
-    Ok(are_driven(alloc, parts)?
-        && are_linked(alloc, parts)?
-        && are_distinct_nets(alloc, count, parts.inputs.as_slice())?
-        && are_distinct_nets(alloc, count, parts.outputs.as_slice())?
-        && are_named(alloc, parts)?)
+    Ok(
+        are_driven(alloc, parts)?
+            && are_linked(alloc, parts)?
+            && are_distinct_nets(alloc, count, parts.inputs.as_slice())?
+            && are_distinct_nets(alloc, count, parts.outputs.as_slice())?
+            && are_named(alloc, parts)?,
+    )
 }
 
 /// Whether the parts of a netlist are sound.

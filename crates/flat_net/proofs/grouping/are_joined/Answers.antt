@@ -1,4 +1,4 @@
-use Rattle.std.proofs.Common.{◌≡◌, ◌<◌, ℕ, List, length, sym, ap, subst, ◌∙◌}
+use Rattle.std.proofs.Common.{◌≡◌, ℕ, List, length, sym, ap, subst, ◌∙◌}
 use Rattle.std.proofs.lemmas.Bool.Decides.{Decides-at}
 use Rattle.net_groups.specs.Joins.{AreBelow, AreGroups}
 use Rattle.flat_net.specs.declared.parts.NetPart.{NetPart}
@@ -14,7 +14,7 @@ groups_of-requires c =
     let pairs : c.deref.result.now ≡ switch_ends c.args.parts.now.elements = c.deref.ensures.value ∙ c.in_ok-pairs.ensures ∙ ap switch_ends c.as_slice.ensures in
     let below = AreBelow-switch_ends (length c.args.parts.now.nets) c.args.parts.now.udps c.args.parts.now.elements c.requires.elements in
     subst (λ (p : List (ℕ × ℕ)). AreBelow (length c.as_slice-nets.result.now) p) (sym pairs)
-      (subst (λ (n : List NetPart). AreBelow (length n) (switch_ends c.args.parts.now.elements)) (sym c.as_slice-nets.ensures) below)
+    (subst (λ (n : List NetPart). AreBelow (length n) (switch_ends c.args.parts.now.elements)) (sym c.as_slice-nets.ensures) below)
 
 pub returns : goal.returns
 returns c =
@@ -25,8 +25,8 @@ returns c =
     let three = subst (λ (p : List (ℕ × ℕ)). AreGroups (length parts.nets) p c.in_ok-least.least.items) pairs two in
     let groups = subst (λ (l : List ℕ). AreGroups (length parts.nets) (switch_ends parts.elements) l) (sym c.deref-2.ensures.value) three in
     let tested : c.are_grouped.result ≡ all_at (is_grouped parts.nets parts.islands c.deref-2.result.now) parts.nets
-        = c.are_grouped.ensures
-        ∙ ap (λ (n : List NetPart). all_at (is_grouped n c.as_slice-2.result.now c.deref-2.result.now) n) c.as_slice-nets.ensures
-        ∙ ap (λ (i : List Island). all_at (is_grouped parts.nets i c.deref-2.result.now) parts.nets) c.as_slice-2.ensures in
+    = c.are_grouped.ensures
+    ∙ ap (λ (n : List NetPart). all_at (is_grouped n c.as_slice-2.result.now c.deref-2.result.now) n) c.as_slice-nets.ensures
+    ∙ ap (λ (i : List Island). all_at (is_grouped parts.nets i c.deref-2.result.now) parts.nets) c.as_slice-2.ensures in
     Decides-at c.are_grouped.result (all_at (is_grouped parts.nets parts.islands c.deref-2.result.now) parts.nets) tested
-      (Decides-joins parts.nets parts.islands c.deref-2.result.now (switch_ends parts.elements) groups parts.elements c.requires.nets c.requires.islands)
+    (Decides-joins parts.nets parts.islands c.deref-2.result.now (switch_ends parts.elements) groups parts.elements c.requires.nets c.requires.islands)

@@ -21,4 +21,4 @@ returns c =
     let cells : AreCells c.args.parts.now = (Decides-are_cells c.args.parts.now).0 (sym c.are_cells.ensures ∙ c.if-not-are_cells.false) in
     let joined : AreJoined c.args.parts.now = c.in_ok-are_joined.ensures.0 c.if-not-branch.false in
     if_ok_into (λ (complete : Bool). complete ≡ are_complete c.args.parts.now) (λ (complete : Bool). Decides complete (IsSound c.args.parts.now))
-      (λ complete e. Decides-at complete (are_complete c.args.parts.now) e (Decides-sound c.args.parts.now cells joined)) c.are_complete.result c.are_complete.ensures
+    (λ complete e. Decides-at complete (are_complete c.args.parts.now) e (Decides-sound c.args.parts.now cells joined)) c.are_complete.result c.are_complete.ensures
