@@ -1,6 +1,6 @@
-//! Vectors that contracts see as lists: bytes, names, numbers and others.
+//! Lists of bytes, of names and of numbers, each seen by contracts as a list.
 #![tactic(auto)]
 
 mod lists;
 
-pub use lists::{Bytes, ListOf, NameList, NetList};
+pub use lists::{Bytes, NameList, NetList};

@@ -1,64 +1,112 @@
-ghost use Rattle.std.specs.Prelude.{◌≡◌, IfOk};
+ghost use Rattle.std.specs.Prelude.{◌≡◌, [], ◌∷◌, ◌++◌, length, OnOk, OnErr, IfErr, slice_index, ◌<◌};
 
-use std::alloc::{AllocError, Global};
+use std::alloc::{AllocFailed, Global};
 use std::marker::Model;
 
-/// A vector that contracts see as the list of its elements.
+/// Bytes, such as those of a name or a text. Contracts see the list of them.
 #[derive(Debug, Drop)]
-pub struct ListOf<T> {
-    elements: Vec<T>,
+pub struct Bytes {
+    bytes: Vec<u8>,
 }
 
-impl<T> Model for ListOf<T> {
-    ghost use Rattle.std.specs.Prelude.{List};
-    ghost use Rattle.std.specs.Coded.{coded_list};
+impl Model for Bytes {
+    ghost use Rattle.std.specs.Prelude.{List, ℕ};
 
-    ghost Value = { List T };
+    ghost Value = { List ℕ };
 
-    ghost coded = { coded_list T.code };
-
-    ghost view = { λ l. l.elements.items };
+    ghost view = { λ b. b.bytes.items };
 }
 
-impl<T> ListOf<T> {
-    /// The elements of a vector, which is kept.
-    pub fn from_vec(elements: Vec<T>) -> ListOf<T>
-        ensures { result ≡ elements.items }
+impl Bytes {
+    /// The bytes of a vector, which is kept.
+    pub fn from_vec(bytes: Vec<u8>) -> Bytes
+        ensures { result ≡ bytes.items }
     {
-        ListOf { elements }
+        Bytes { bytes }
     }
 
-    /// The vector that holds the elements.
-    pub fn into_vec(self) -> Vec<T>
+    /// The vector that holds the bytes.
+    pub fn into_vec(self) -> Vec<u8>
         ensures { result.items ≡ self }
     {
-        self.elements
+        self.bytes
     }
 
-    /// The elements in their order.
-    pub fn as_slice(&self) -> &[T]
+    pub fn as_slice(&self) -> &[u8]
         ensures { result.now ≡ self.now }
     {
-        self.elements.as_slice()
+        self.bytes.as_slice()
     }
 }
 
-impl<T: Copy> ListOf<T> {
-    /// A list of equal elements.
-    pub fn copied(&self, alloc: Global) -> Result<ListOf<T>, AllocError>
-        ensures { IfOk result (λ list. list ≡ self.now) }
+/// Names, each the bytes of one. Contracts see a list of lists of bytes.
+#[derive(Debug, Drop)]
+pub struct NameList {
+    names: Vec<Bytes>,
+}
+
+impl Model for NameList {
+    ghost use Rattle.std.specs.Prelude.{List, ℕ};
+
+    ghost Value = { List (List ℕ) };
+
+    ghost view = { λ n. n.names.items };
+}
+
+impl NameList {
+    /// The names of a vector, which is kept.
+    pub fn from_vec(names: Vec<Bytes>) -> NameList
+        ensures { result ≡ names.items }
     {
-        Ok(ListOf {
-            elements: Vec::from_slice(alloc, self.elements.as_slice())?,
-        })
+        NameList { names }
+    }
+
+    /// The vector that holds the names.
+    pub fn into_vec(self) -> Vec<Bytes>
+        ensures { result.items ≡ self }
+    {
+        self.names
+    }
+
+    pub fn as_slice(&self) -> &[Bytes]
+        ensures { result.now ≡ self.now }
+    {
+        self.names.as_slice()
     }
 }
 
-/// Bytes, such as those of a name or a text.
-pub type Bytes = ListOf<u8>;
+/// Numbers of nets, elements or places. Contracts see the list of them.
+#[derive(Debug, Drop)]
+pub struct NetList {
+    nets: Vec<u32>,
+}
 
-/// Names, each the bytes of one.
-pub type NameList = ListOf<Bytes>;
+impl Model for NetList {
+    ghost use Rattle.std.specs.Prelude.{List, ℕ};
 
-/// Numbers of nets, elements or positions.
-pub type NetList = ListOf<u32>;
+    ghost Value = { List ℕ };
+
+    ghost view = { λ n. n.nets.items };
+}
+
+impl NetList {
+    /// The numbers of a vector, which is kept.
+    pub fn from_vec(nets: Vec<u32>) -> NetList
+        ensures { result ≡ nets.items }
+    {
+        NetList { nets }
+    }
+
+    /// The vector that holds the numbers.
+    pub fn into_vec(self) -> Vec<u32>
+        ensures { result.items ≡ self }
+    {
+        self.nets
+    }
+
+    pub fn as_slice(&self) -> &[u32]
+        ensures { result.now ≡ self.now }
+    {
+        self.nets.as_slice()
+    }
+}

@@ -1,10 +1,11 @@
 ghost use Rattle.std.specs.Prelude.{◌≡◌, IfOk};
 
 use crate::parts::{Element, Find, Island, Parts};
-use byte_lists::{Bytes, ListOf};
+use byte_lists::{Bytes, NameList, NetList};
+use list_of::ListOf;
 use net_settle::{KindList, LevelList, LinkList, Shape};
 use std::alloc::{AllocError, Global};
-use udp_table::Udp;
+use udp_table::{Udp, build};
 
 /// What can be copied.
 trait Copied: Drop + Sized {
@@ -26,8 +27,22 @@ fn copy_list<T: Copied>(alloc: Global, list: &[T]) -> Result<ListOf<T>, AllocErr
 
 impl Copied for Bytes {
     fn copied(&self, alloc: Global) -> Result<Bytes, AllocError> {
-        ListOf::copied(self, alloc)
+        Ok(Bytes::from_vec(Vec::from_slice(alloc, self.as_slice())?))
     }
+}
+
+impl Copied for NetList {
+    fn copied(&self, alloc: Global) -> Result<NetList, AllocError> {
+        Ok(NetList::from_vec(Vec::from_slice(alloc, self.as_slice())?))
+    }
+}
+
+/// Equal names.
+fn copy_names(alloc: Global, names: &NameList) -> Result<NameList, AllocError>
+    ensures { IfOk result (λ copy. copy ≡ names.now) }
+{
+    let names = copy_list(alloc, names.as_slice())?;
+    Ok(NameList::from_vec(names.into_vec()))
 }
 
 impl Copied for Element {
@@ -37,8 +52,8 @@ impl Copied for Element {
             s0: self.s0,
             s1: self.s1,
             delays: self.delays,
-            outs: ListOf::copied(&self.outs, alloc)?,
-            ins: ListOf::copied(&self.ins, alloc)?,
+            outs: self.outs.copied(alloc)?,
+            ins: self.ins.copied(alloc)?,
             ends: self.ends,
         })
     }
@@ -47,8 +62,8 @@ impl Copied for Element {
 impl Copied for Find {
     fn copied(&self, alloc: Global) -> Result<Find, AllocError> {
         Ok(Find {
-            name: ListOf::copied(&self.name, alloc)?,
-            nets: ListOf::copied(&self.nets, alloc)?,
+            name: self.name.copied(alloc)?,
+            nets: self.nets.copied(alloc)?,
         })
     }
 }
@@ -67,9 +82,9 @@ fn copy_shape(alloc: Global, shape: &Shape) -> Result<Shape, AllocError>
 impl Copied for Island {
     fn copied(&self, alloc: Global) -> Result<Island, AllocError> {
         Ok(Island {
-            nets: ListOf::copied(&self.nets, alloc)?,
-            drives: ListOf::copied(&self.drives, alloc)?,
-            links: ListOf::copied(&self.links, alloc)?,
+            nets: self.nets.copied(alloc)?,
+            drives: self.drives.copied(alloc)?,
+            links: self.links.copied(alloc)?,
             shape: copy_shape(alloc, &self.shape)?,
         })
     }
@@ -77,7 +92,15 @@ impl Copied for Island {
 
 impl Copied for Udp {
     fn copied(&self, alloc: Global) -> Result<Udp, AllocError> {
-        Udp::copied(self, alloc)
+        // its parts are such as `build` accepts, so that only memory can be wanting
+        build(
+            alloc,
+            self.inputs(),
+            self.sequential(),
+            self.start(),
+            self.rows(),
+        )
+        .map_err(|_| AllocError)
     }
 }
 
@@ -86,14 +109,14 @@ pub(crate) fn copy_parts(alloc: Global, parts: &Parts) -> Result<Parts, AllocErr
     ensures { IfOk result (λ copy. copy ≡ parts.now) }
 {
     Ok(Parts {
-        nets: ListOf::copied(&parts.nets, alloc)?,
+        nets: parts.nets.copied(alloc)?,
         elements: copy_list(alloc, parts.elements.as_slice())?,
         islands: copy_list(alloc, parts.islands.as_slice())?,
         udps: copy_list(alloc, parts.udps.as_slice())?,
-        net_names: copy_list(alloc, parts.net_names.as_slice())?,
-        element_names: copy_list(alloc, parts.element_names.as_slice())?,
+        net_names: copy_names(alloc, &parts.net_names)?,
+        element_names: copy_names(alloc, &parts.element_names)?,
         finds: copy_list(alloc, parts.finds.as_slice())?,
-        inputs: ListOf::copied(&parts.inputs, alloc)?,
-        outputs: ListOf::copied(&parts.outputs, alloc)?,
+        inputs: parts.inputs.copied(alloc)?,
+        outputs: parts.outputs.copied(alloc)?,
     })
 }

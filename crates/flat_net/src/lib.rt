@@ -21,3 +21,6 @@ pub use parts::{
     NetPart, NetPartList, Parts, UdpList,
 };
 pub use soundness::sound;
+
+#[cfg(test)]
+mod tests;

@@ -1,6 +1,7 @@
 use crate::kinds::{ElementKind, NetKind};
-use byte_lists::{Bytes, ListOf, NameList, NetList};
+use byte_lists::{Bytes, NameList, NetList};
 use delay_rule::Delays;
+use list_of::ListOf;
 use net_settle::Shape;
 use udp_table::Udp;
 

@@ -1,8 +1,7 @@
-ghost use Rattle.std.specs.Prelude.{◌≡◌, IfOk};
+ghost use Rattle.std.specs.Prelude.{◌≡◌};
 
 use crate::rows::RowList;
 use level_range::Logic;
-use std::alloc::{AllocError, Global};
 use std::marker::Model;
 
 /// A user-defined primitive (IEEE 1364-2005, clause 8), such as `build` accepts.
@@ -57,17 +56,5 @@ impl Udp {
         ensures accepted { IsAccepted self.now }
     {
         &self.rows
-    }
-
-    /// An equal primitive.
-    pub fn copied(&self, alloc: Global) -> Result<Udp, AllocError>
-        ensures { IfOk result (λ copy. copy ≡ self.now) }
-    {
-        Ok(Udp {
-            inputs: self.inputs,
-            sequential: self.sequential,
-            start: self.start,
-            rows: self.rows.copied(alloc)?,
-        })
     }
 }

@@ -1,0 +1,269 @@
+mod flaws;
+mod sample;
+
+use crate::{Cell, Drive, Element, ElementKind, Find, Flat, Island, NetPart, Parts, Patch, sound};
+use byte_lists::{Bytes, NameList, NetList};
+use delay_rule::Delays;
+use flaws::{Change, FLAWS};
+use level_range::Logic;
+use list_of::ListOf;
+use net_settle::{KindList, LevelList, Link, LinkList, Shape};
+use sample::{
+    ELEMENT_NAMES, ELEMENTS, ElementRow, FINDS, FindRow, ISLANDS, IslandRow, NET_NAMES, NETS,
+    NetRow,
+};
+use std::alloc::{AllocError, Global};
+use std::test::Fail;
+use udp_table::{RowList, Sym, SymList, Udp, UdpRow, build};
+
+const NO_DELAYS: Delays = Delays {
+    count: 0,
+    d: [0, 0, 0],
+};
+
+fn net_part(row: &NetRow) -> NetPart {
+    NetPart {
+        kind: row.kind,
+        charge: row.charge,
+        delays: NO_DELAYS,
+        island: row.island,
+        place: row.place,
+    }
+}
+
+fn numbers(alloc: Global, row: &[u32]) -> Result<NetList, AllocError> {
+    Ok(NetList::from_vec(Vec::from_slice(alloc, row)?))
+}
+
+fn element(alloc: Global, row: &ElementRow) -> Result<Element, AllocError> {
+    Ok(Element {
+        kind: row.kind,
+        s0: 6,
+        s1: row.s1,
+        delays: NO_DELAYS,
+        outs: numbers(alloc, row.outs)?,
+        ins: numbers(alloc, row.ins)?,
+        ends: row.ends,
+    })
+}
+
+fn shape(alloc: Global, row: &IslandRow) -> Result<Shape, AllocError> {
+    let links = row
+        .ends
+        .iter()
+        .map(|(a, b)| Link {
+            a: *a,
+            b: *b,
+            resistive: false,
+        })
+        .collect(alloc)?;
+    Ok(Shape {
+        kinds: KindList::from_vec(Vec::from_slice(alloc, row.kinds)?),
+        charge: LevelList::from_vec(Vec::from_slice(alloc, row.charge)?),
+        links: LinkList::from_vec(links),
+    })
+}
+
+fn island(alloc: Global, row: &IslandRow) -> Result<Island, AllocError> {
+    let drives = row
+        .drives
+        .iter()
+        .map(|(element, pin, place)| Drive {
+            element: *element,
+            pin: *pin,
+            place: *place,
+        })
+        .collect(alloc)?;
+    Ok(Island {
+        nets: numbers(alloc, row.nets)?,
+        drives: ListOf::from_vec(drives),
+        links: ListOf::from_vec(Vec::from_slice(alloc, row.links)?),
+        shape: shape(alloc, row)?,
+    })
+}
+
+fn bytes(alloc: Global, text: &str) -> Result<Bytes, AllocError> {
+    Ok(Bytes::from_vec(Vec::from_slice(alloc, text.as_bytes())?))
+}
+
+fn find(alloc: Global, row: &FindRow) -> Result<Find, AllocError> {
+    Ok(Find {
+        name: bytes(alloc, row.name)?,
+        nets: numbers(alloc, row.nets)?,
+    })
+}
+
+fn nets(alloc: Global, change: &Change) -> Result<ListOf<NetPart>, AllocError> {
+    let mut nets = Vec::new(alloc);
+    for (k, row) in NETS.iter().enumerate() {
+        let row = match change {
+            Change::Net(at, other) if *at == k => other,
+            _ => row,
+        };
+        nets.push(net_part(row))?;
+    }
+    Ok(ListOf::from_vec(nets))
+}
+
+fn elements(alloc: Global, change: &Change) -> Result<ListOf<Element>, AllocError> {
+    let mut elements = Vec::new(alloc);
+    for (k, row) in ELEMENTS.iter().enumerate() {
+        let row = match change {
+            Change::Element(at, other) if *at == k => other,
+            _ => row,
+        };
+        elements.push(element(alloc, row)?)?;
+    }
+    Ok(ListOf::from_vec(elements))
+}
+
+fn islands(alloc: Global, change: &Change) -> Result<ListOf<Island>, AllocError> {
+    let mut islands = Vec::new(alloc);
+    for (k, row) in ISLANDS.iter().enumerate() {
+        let row = match change {
+            Change::Island(at, other) if *at == k => other,
+            _ => row,
+        };
+        islands.push(island(alloc, row)?)?;
+    }
+    Ok(ListOf::from_vec(islands))
+}
+
+fn finds(alloc: Global, change: &Change) -> Result<ListOf<Find>, AllocError> {
+    let mut finds = Vec::new(alloc);
+    for (k, row) in FINDS.iter().enumerate() {
+        let row = match change {
+            Change::Find(at, other) if *at == k => other,
+            _ => row,
+        };
+        finds.push(find(alloc, row)?)?;
+    }
+    Ok(ListOf::from_vec(finds))
+}
+
+/// The names, one of them another.
+fn names(
+    alloc: Global,
+    texts: &[&str],
+    other: Option<(usize, &str)>,
+) -> Result<NameList, AllocError> {
+    let mut names = Vec::new(alloc);
+    for (k, text) in texts.iter().enumerate() {
+        let text = match other {
+            Some((at, other)) if at == k => other,
+            _ => *text,
+        };
+        names.push(bytes(alloc, text)?)?;
+    }
+    Ok(NameList::from_vec(names))
+}
+
+fn udps(alloc: Global) -> Result<ListOf<Udp>, Fail> {
+    let row = UdpRow {
+        ins: SymList::from_vec(vec![in alloc; Sym::One, Sym::Any]?),
+        state: None,
+        out: Sym::One,
+    };
+    let rows = RowList::from_vec(vec![in alloc; row]?);
+    let udp = build(alloc, 2, false, Logic::X, &rows)?;
+    Ok(ListOf::from_vec(vec![in alloc; udp]?))
+}
+
+/// The sample with one part changed.
+fn changed(alloc: Global, change: &Change) -> Result<Parts, Fail> {
+    let net_name = match change {
+        Change::NetName(at, name) => Some((*at, *name)),
+        _ => None,
+    };
+    let element_name = match change {
+        Change::ElementName(at, name) => Some((*at, *name)),
+        _ => None,
+    };
+    let inputs = match change {
+        Change::Inputs(nets) => *nets,
+        _ => &[3],
+    };
+    let outputs = match change {
+        Change::Outputs(nets) => *nets,
+        _ => &[5, 6, 7],
+    };
+    Ok(Parts {
+        nets: nets(alloc, change)?,
+        elements: elements(alloc, change)?,
+        islands: islands(alloc, change)?,
+        udps: udps(alloc)?,
+        net_names: names(alloc, &NET_NAMES, net_name)?,
+        element_names: names(alloc, &ELEMENT_NAMES, element_name)?,
+        finds: finds(alloc, change)?,
+        inputs: numbers(alloc, inputs)?,
+        outputs: numbers(alloc, outputs)?,
+    })
+}
+
+#[test]
+fn each_flaw_is_unsound(rt: HostRuntime) -> Result<(), Fail> {
+    assert!(rt; sound(rt.alloc(), &changed(rt.alloc(), &Change::Nothing)?)?);
+    for flaw in &FLAWS {
+        let parts = changed(rt.alloc(), &flaw.change)?;
+        assert!(rt; !sound(rt.alloc(), &parts)?, "{}", flaw.name);
+    }
+    Ok(())
+}
+
+fn share<T: Send + Sync>(value: T) -> T
+    ensures { result ≡ value }
+{
+    value
+}
+
+#[test]
+fn readers_give_the_parts(rt: HostRuntime) -> Result<(), Fail> {
+    let parts = changed(rt.alloc(), &Change::Nothing)?;
+    assert!(rt; sound(rt.alloc(), &parts)?);
+    let flat = share(Flat::new(rt.alloc(), parts)?);
+    assert_eq!(rt; flat.net_count(), 8);
+    assert_eq!(rt; flat.element_count(), 6);
+    assert_eq!(rt; flat.island_count(), 6);
+    assert_eq!(rt; flat.net(2).charge, 2);
+    assert_eq!(rt; flat.net_name(7), "v[0]");
+    assert_eq!(rt; flat.element(3).outs.as_slice(), [6, 7].as_slice());
+    assert_eq!(rt; flat.element_name(2), "u0");
+    assert_eq!(rt; flat.island(0).nets.as_slice(), [0, 1, 2].as_slice());
+    assert_eq!(rt; flat.inputs().as_slice(), [3].as_slice());
+    assert_eq!(rt; flat.outputs().as_slice(), [5, 6, 7].as_slice());
+    assert_eq!(rt; flat.patch(Cell::Island(5)), Patch::Whole);
+    Ok(())
+}
+
+#[test]
+fn names_find_bits_and_elements(rt: HostRuntime) -> Result<(), Fail> {
+    let parts = changed(rt.alloc(), &Change::Nothing)?;
+    assert!(rt; sound(rt.alloc(), &parts)?);
+    let flat = Flat::new(rt.alloc(), parts)?;
+    assert_eq!(rt; flat.bit_of("v", 0), Some(6));
+    assert_eq!(rt; flat.bit_of("v", 1), Some(7));
+    assert_eq!(rt; flat.bit_of("v", 2), None);
+    assert_eq!(rt; flat.bit_of("v[1]", 0), None);
+    assert_eq!(rt; flat.element_of("a0"), Some(4));
+    assert_eq!(rt; flat.element_of("a"), None);
+    Ok(())
+}
+
+#[test]
+fn a_patch_is_that_of_its_cell_alone(rt: HostRuntime) -> Result<(), Fail> {
+    let parts = changed(rt.alloc(), &Change::Nothing)?;
+    assert!(rt; sound(rt.alloc(), &parts)?);
+    let mut flat = Flat::new(rt.alloc(), parts)?;
+    assert_eq!(rt; flat.element_count(), 6);
+    assert_eq!(rt; flat.element(0).kind, ElementKind::Tran);
+    flat.set_patch(Cell::Element(0), Patch::Open);
+    assert_eq!(rt; flat.patch(Cell::Element(0)), Patch::Open);
+    assert_eq!(rt; flat.patch(Cell::Element(1)), Patch::Whole);
+    let copy = flat.parts(rt.alloc())?;
+    assert!(rt; sound(rt.alloc(), &copy)?);
+    let other = Flat::new(rt.alloc(), copy)?;
+    assert_eq!(rt; other.element_count(), 6);
+    assert_eq!(rt; other.patch(Cell::Element(0)), Patch::Whole);
+    assert_eq!(rt; other.element_name(5), "k0");
+    Ok(())
+}

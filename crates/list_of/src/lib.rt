@@ -1,0 +1,6 @@
+//! A vector that contracts see as the list of its elements.
+#![tactic(auto)]
+
+mod lists;
+
+pub use lists::ListOf;
