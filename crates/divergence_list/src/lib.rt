@@ -1,0 +1,10 @@
+//! What faulty machines have in place of the good machine: a finite map from cells and faults to
+//! values, as short lists by cell.
+#![tactic(auto)]
+
+mod cell_lists;
+mod entry;
+mod fault_cells;
+mod spread;
+
+pub use entry::Entry;
