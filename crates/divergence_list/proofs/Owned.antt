@@ -45,10 +45,10 @@ module _ {V : Type 0} where
   number-of_entries numbers ls s cell index n view within less is =
       number-read numbers cell n (within-numbers numbers ls s cell view within) is
       (λ zero-there. let none : get_or numbers cell 0 ≡ 0 =
-        get_or_default numbers cell 0 n (within-numbers numbers ls s cell view within) ∙ sym is ∙ zero-there in
+      get_or_default numbers cell 0 n (within-numbers numbers ls s cell view within) ∙ sym is ∙ zero-there in
       let empty : at_cell s cell ≡ [] =
-        ap (λ cells. at_cell cells cell) (sym view) ∙ at_cell-by_cell numbers ls cell
-        ∙ ap (numbered (contents ls)) none in
+      ap (λ cells. at_cell cells cell) (sym view) ∙ at_cell-by_cell numbers ls cell
+      ∙ ap (numbered (contents ls)) none in
       omega (arith, ap length empty))
 
   module _ (numbers : List ℕ) (ls : List (CellList V)) (cell k : ℕ) (owned : IsOwned numbers (owners ls))
@@ -72,33 +72,33 @@ module _ {V : Type 0} where
         ∙ sym (length-set (by_cell numbers ls) cell x.entries.items))
         (λ c less. at_cell-by_cell numbers (set ls k x) c ∙ at c)
       where
-      written : contents (set ls k x) ≡ set (contents ls) k x.entries.items
-      written = map-set (λ l. l.entries.items) ls k x
+        written : contents (set ls k x) ≡ set (contents ls) k x.entries.items
+        written = map-set (λ l. l.entries.items) ls k x
 
-      there : k < length (contents ls)
-      there = rw (length-map ls (λ l. l.entries.items)) list-there
+        there : k < length (contents ls)
+        there = rw (length-map ls (λ l. l.entries.items)) list-there
 
-      in_range : cell < length (by_cell numbers ls)
-      in_range = rw (length-map numbers (numbered (contents ls))) within
+        in_range : cell < length (by_cell numbers ls)
+        in_range = rw (length-map numbers (numbered (contents ls))) within
 
-      other : (c n : ℕ) → c ≢ cell → get_or numbers c 0 ≡ n
-          → numbered (set (contents ls) k x.entries.items) n ≡ numbered (contents ls) n
-      other c zero apart is = refl
-      other c (suc j) apart is =
-          get_or-set_other (contents ls) k j x.entries.items []
-          (λ same. apart (sym (owned c j is).1 ∙ ap (λ i. get_or (owners ls) i 0) same ∙ (owned cell k named).1))
+        other : (c n : ℕ) → c ≢ cell → get_or numbers c 0 ≡ n
+            → numbered (set (contents ls) k x.entries.items) n ≡ numbered (contents ls) n
+        other c zero apart is = refl
+        other c (suc j) apart is =
+            get_or-set_other (contents ls) k j x.entries.items []
+            (λ same. apart (sym (owned c j is).1 ∙ ap (λ i. get_or (owners ls) i 0) same ∙ (owned cell k named).1))
 
-      at : (c : ℕ) → numbered (contents (set ls k x)) (get_or numbers c 0)
-          ≡ get_or (set (by_cell numbers ls) cell x.entries.items) c []
-      at c =
-          ⊎_elim
-          (λ (same : c ≡ cell). rw (same, written, named)
-          (get_or-set_same (contents ls) k x.entries.items [] there
-          ∙ sym (get_or-set_same (by_cell numbers ls) cell x.entries.items [] in_range)))
-          (λ (apart : c ≢ cell). rw written (other c (get_or numbers c 0) apart refl
-          ∙ sym (at_cell-by_cell numbers ls c)
-          ∙ sym (get_or-set_other (by_cell numbers ls) cell c x.entries.items [] apart)))
-          (cases_eq c cell)
+        at : (c : ℕ) → numbered (contents (set ls k x)) (get_or numbers c 0)
+            ≡ get_or (set (by_cell numbers ls) cell x.entries.items) c []
+        at c =
+            ⊎_elim
+            (λ (same : c ≡ cell). rw (same, written, named)
+            (get_or-set_same (contents ls) k x.entries.items [] there
+            ∙ sym (get_or-set_same (by_cell numbers ls) cell x.entries.items [] in_range)))
+            (λ (apart : c ≢ cell). rw written (other c (get_or numbers c 0) apart refl
+            ∙ sym (at_cell-by_cell numbers ls c)
+            ∙ sym (get_or-set_other (by_cell numbers ls) cell c x.entries.items [] apart)))
+            (cases_eq c cell)
 
     -- the same, from what the list held and the lists that callers see
     pub by_cell-writes : (s : List (List (Entry V))) (x y : CellList V) (f : List (Entry V) → List (Entry V))
@@ -126,33 +126,33 @@ module _ {V : Type 0} where
         ∙ sym (length-map numbers (numbered (contents ls))))
         (λ c less. at_cell-by_cell numbers-new (ls ++ x ∷ []) c ∙ at c ∙ sym (at_cell-by_cell numbers ls c))
       where
-      numbers-new : List ℕ
-      numbers-new = set numbers cell (length ls + 1)
+        numbers-new : List ℕ
+        numbers-new = set numbers cell (length ls + 1)
 
-      pushed : contents (ls ++ x ∷ []) ≡ contents ls ++ [] ∷ []
-      pushed = map_push (λ l. l.entries.items) ls x ∙ ap (λ (es : List (Entry V)). contents ls ++ es ∷ []) empty
+        pushed : contents (ls ++ x ∷ []) ≡ contents ls ++ [] ∷ []
+        pushed = map_push (λ l. l.entries.items) ls x ∙ ap (λ (es : List (Entry V)). contents ls ++ es ∷ []) empty
 
-      other : (n c : ℕ) → get_or numbers c 0 ≡ n
-          → numbered (contents ls ++ [] ∷ []) n ≡ numbered (contents ls) n
-      other zero c is = refl
-      other (suc j) c is =
-          get_or_append_left (contents ls) ([] ∷ []) [] j
-          (rw (length-map ls (λ l. l.entries.items), ← length-map ls (λ l. l.cell)) (owned c j is).0)
+        other : (n c : ℕ) → get_or numbers c 0 ≡ n
+            → numbered (contents ls ++ [] ∷ []) n ≡ numbered (contents ls) n
+        other zero c is = refl
+        other (suc j) c is =
+            get_or_append_left (contents ls) ([] ∷ []) [] j
+            (rw (length-map ls (λ l. l.entries.items), ← length-map ls (λ l. l.cell)) (owned c j is).0)
 
-      at : (c : ℕ) → numbered (contents (ls ++ x ∷ [])) (get_or numbers-new c 0)
-          ≡ numbered (contents ls) (get_or numbers c 0)
-      at c =
-          ⊎_elim
-          (λ (here : c ≡ cell).
-          ap (λ ks. numbered ks (get_or numbers-new c 0)) pushed
-          ∙ ap (numbered (contents ls ++ [] ∷ [])) (ap (λ i. get_or numbers-new i 0) here ∙ get_or-set_same numbers cell (length ls + 1) 0 within ∙ add-one (length ls))
-          ∙ get_or_push (contents ls) [] [] (length ls) (length-map ls (λ l. l.entries.items))
-          ∙ sym (ap (numbered (contents ls)) (ap (λ i. get_or numbers i 0) here ∙ unnamed)))
-          (λ (apart : c ≢ cell).
-          ap (λ ks. numbered ks (get_or numbers-new c 0)) pushed
-          ∙ ap (numbered (contents ls ++ [] ∷ [])) (get_or-set_other numbers cell c (length ls + 1) 0 apart)
-          ∙ other (get_or numbers c 0) c refl)
-          (cases_eq c cell)
+        at : (c : ℕ) → numbered (contents (ls ++ x ∷ [])) (get_or numbers-new c 0)
+            ≡ numbered (contents ls) (get_or numbers c 0)
+        at c =
+            ⊎_elim
+            (λ (here : c ≡ cell).
+            ap (λ ks. numbered ks (get_or numbers-new c 0)) pushed
+            ∙ ap (numbered (contents ls ++ [] ∷ [])) (ap (λ i. get_or numbers-new i 0) here ∙ get_or-set_same numbers cell (length ls + 1) 0 within ∙ add-one (length ls))
+            ∙ get_or_push (contents ls) [] [] (length ls) (length-map ls (λ l. l.entries.items))
+            ∙ sym (ap (numbered (contents ls)) (ap (λ i. get_or numbers i 0) here ∙ unnamed)))
+            (λ (apart : c ≢ cell).
+            ap (λ ks. numbered ks (get_or numbers-new c 0)) pushed
+            ∙ ap (numbered (contents ls ++ [] ∷ [])) (get_or-set_other numbers cell c (length ls + 1) 0 apart)
+            ∙ other (get_or numbers c 0) c refl)
+            (cases_eq c cell)
 
     -- and is that cell's
     pub IsOwned-push : cell < length numbers → x.cell ≡ cell
@@ -161,13 +161,15 @@ module _ {V : Type 0} where
         ⊎_elim
         (λ (here : c ≡ cell).
         let number : length ls + 1 ≡ suc j = sym (get_or-set_same numbers cell (length ls + 1) 0 within) ∙ ap (λ i. get_or (set numbers cell (length ls + 1)) i 0) (sym here) ∙ is in
-        let last : length ls ≡ j = omega arith in
-        (rw (map_push (λ l. l.cell) ls x, length_push, length-map ls (λ l. l.cell)) (omega arith),
-        rw (map_push (λ l. l.cell) ls x) (get_or_push (owners ls) x.cell 0 j (length-map ls (λ l. l.cell) ∙ last) ∙ same ∙ sym here)))
+        let last : length ls ≡ j = omega arith in (
+          rw (map_push (λ l. l.cell) ls x, length_push, length-map ls (λ l. l.cell)) (omega arith),
+          rw (map_push (λ l. l.cell) ls x) (get_or_push (owners ls) x.cell 0 j (length-map ls (λ l. l.cell) ∙ last) ∙ same ∙ sym here),
+        ))
         (λ (apart : c ≢ cell).
-        let before = owned c j (sym (get_or-set_other numbers cell c (length ls + 1) 0 apart) ∙ is) in
-        (rw (map_push (λ l. l.cell) ls x, length_push) (omega (arith, before.0)),
-        rw (map_push (λ l. l.cell) ls x) (get_or_append_left (owners ls) (x.cell ∷ []) 0 j before.0 ∙ before.1)))
+        let before = owned c j (sym (get_or-set_other numbers cell c (length ls + 1) 0 apart) ∙ is) in (
+          rw (map_push (λ l. l.cell) ls x, length_push) (omega (arith, before.0)),
+          rw (map_push (λ l. l.cell) ls x) (get_or_append_left (owners ls) (x.cell ∷ []) 0 j before.0 ∙ before.1),
+        ))
         (cases_eq c cell)
 
 -- one value over and over, read through a function

@@ -1,15 +1,19 @@
 -- Lists of entries with faults rising: where a fault stands in one, and what an insert, a write and a removal there leave.
-use Rattle.std.proofs.Common.{◌≡◌, ℕ, suc, zero, ◌+◌, ◌<◌, ◌≤◌, Bool, true, false, cond, eqb, ltb, List, [], ◌∷◌, ◌++◌, length, get_or, set, take, drop, map, Option, None, Some, refl, sym, ap, ◌∙◌, arith}
+use Rattle.std.proofs.Common.{◌≡◌, ℕ, suc, zero, ◌+◌, ◌<◌, ◌≤◌, Bool, true, false, cond, eqb, ltb, List, [], ◌∷◌, ◌++◌, length, get_or, set, take, drop, map, Option, None, Some, refl, sym, ap, ◌∙◌, arith, add-one, ⊎_elim}
 use Rattle.std.specs.Option.{IsSome, is_some}
 use Rattle.std.specs.List.Sorted.{IsNonDecreasingBy}
 use Rattle.std.specs.List.{insert, remove, AllWithin}
+use Rattle.std.proofs.lemmas.List.{get_or_default}
+use Rattle.std.specs.List.{slice_get}
+use Rattle.std.specs.Option.{IfSome}
+use Rattle.std.proofs.lemmas.Option.{slice_get_cases}
 use Rattle.std.proofs.lemmas.Bool.{ltb-true, ltb-false, eqb-true, eqb-false, eq-eqb, ne_eqb, lt-ltb, le-ltb, true≢false, false≢true}
 use Rattle.divergence_list.specs.declared.entry.Entry.{Entry}
-use Rattle.divergence_list.specs.Entries.{entry_in}
+use Rattle.divergence_list.specs.Entries.{entry_in, IsRising}
 use Rattle.divergence_list.specs.Order.{RisesWithin, rank}
 
 -- a test is one or the other
-by_cases : {P : Type 0} (b : Bool) → (b ≡ true → P) → (b ≡ false → P) → P
+pub by_cases : {P : Type 0} (b : Bool) → (b ≡ true → P) → (b ≡ false → P) → P
 by_cases true held failed = held refl
 by_cases false held failed = failed refl
 
@@ -231,3 +235,54 @@ module _ {V : Type 0} where
       let above = le-fault_at (e.fault + 1) high es k d rises.1 (omega arith) in
       let apart : eqb e.fault (get_or es k d).fault ≡ false = ne_eqb e.fault (get_or es k d).fault (omega arith) in
       rw apart (entry_in-fault_at (e.fault + 1) high es k d rises.1 (omega arith))
+
+  -- a fault has an entry exactly where the one at its rank has that fault
+  pub is_some-at_rank : (low high : ℕ) (es : List (Entry V)) (f : ℕ) (d : Entry V) → RisesWithin low high es
+      → rank es f < length es → eqb (get_or es (rank es f) d).fault f ≡ is_some (entry_in es f)
+  is_some-at_rank low high es f d rises less =
+      by_cases (eqb (get_or es (rank es f) d).fault f)
+      (λ q. q ∙ sym (ap is_some (ap (entry_in es) (sym (eqb-true _ f q)) ∙ entry_in-fault_at low high es (rank es f) d rises less)))
+      (λ q. q ∙ sym (ap is_some (absent-at_rank low high es f rises
+      (λ within e same. eqb-false _ f q (ap (λ x. x.fault) (get_or_default es (rank es f) d e within) ∙ same)))))
+
+  -- and none where its rank is the end
+  pub is_some-past_end : (low high : ℕ) (es : List (Entry V)) (f : ℕ) → RisesWithin low high es
+      → length es ≤ rank es f → is_some (entry_in es f) ≡ false
+  is_some-past_end low high es f rises past =
+      ap is_some (absent-at_rank low high es f rises (λ within d same. absurd (omega arith)))
+
+  -- a fault that has an entry has its rank within the list
+  pub rank-within : (low high : ℕ) (es : List (Entry V)) (f : ℕ) → RisesWithin low high es
+      → IsSome (entry_in es f) → rank es f < length es
+  rank-within low high es f rises some =
+      by_cases (ltb (rank es f) (length es))
+      (λ t. ltb-true (rank es f) (length es) t)
+      (λ t. absurd (false≢true (sym (is_some-past_end low high es f rises (ltb-false (rank es f) (length es) t)) ∙ some)))
+
+  -- the entry at the rank of a fault that is there, as it was read
+  pub value-at_rank : (low high : ℕ) (es : List (Entry V)) (f place : ℕ) (x : Entry V) → RisesWithin low high es
+      → place ≡ rank es f → IsSome (entry_in es f) → x ≡ get_or es place x → Some x.value ≡ entry_in es f
+  value-at_rank low high es f place x rises is some read =
+      ap (λ e. Some e.value) (read ∙ ap (λ i. get_or es i x) is) ∙ sym (found-at_rank low high es f x rises some).2
+
+  -- the look-ups of a list and its elements
+  pub each-RisesWithin : (low high : ℕ) (es : List (Entry V)) (k : ℕ) → RisesWithin low high es
+      → IfSome (slice_get es k) (λ e. entry_in es e.fault ≡ Some e.value)
+  each-RisesWithin low high es k rises =
+      ⊎_elim
+      (λ (inside : (x : Entry V) × (k < length es) × (slice_get es k ≡ Some x) × (get_or es k x ≡ x)).
+      rw inside.2 (rw inside.3 at (entry_in-fault_at low high es k inside.0 rises inside.1)))
+      (λ (past : (length es ≤ k) × (slice_get es k ≡ None)). rw past.1 tt)
+      (slice_get_cases es k).1
+
+  -- the faults as numbers
+  pub IsRising-RisesWithin : (low high : ℕ) (es : List (Entry V)) → RisesWithin low high es → IsRising es
+  IsRising-RisesWithin low high es rises k less = rw add-one (next low high es k rises (rw add-one at less))
+    where
+      next : (low high : ℕ) (es : List (Entry V)) (k : ℕ) → RisesWithin low high es
+          → suc k < length (map (λ e. e.fault) es)
+          → get_or (map (λ e. e.fault) es) k 0 < get_or (map (λ e. e.fault) es) (suc k) 0
+      next low high [] k rises less = absurd (omega arith)
+      next low high (d ∷ []) k rises less = absurd (omega arith)
+      next low high (d ∷ e ∷ es) zero rises less = omega (arith, rises.1.0)
+      next low high (d ∷ e ∷ es) (suc k) rises less = next (d.fault + 1) high (e ∷ es) k rises.1 (omega arith)

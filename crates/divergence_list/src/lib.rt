@@ -3,8 +3,11 @@
 #![tactic(auto)]
 
 mod cell_lists;
+mod changes;
 mod entry;
 mod fault_cells;
+mod order;
 mod spread;
 
 pub use entry::Entry;
+pub use spread::Spread;

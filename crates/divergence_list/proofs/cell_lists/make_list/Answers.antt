@@ -12,7 +12,7 @@ returns-clause-entries g c =
     let a = c.in-Ok.ensures in
     let within = c.requires.cell in
     let none : get_or c.args.numbers.now.items c.args.cell 0 ≡ 0 =
-      get_or_default c.args.numbers.now.items c.args.cell 0 _ within ∙ sym c.index-number.ensures ∙ omega arith in
+    get_or_default c.args.numbers.now.items c.args.cell 0 _ within ∙ sym c.index-number.ensures ∙ omega arith in
     let number : c.in-Ok.number ≡ length c.args.lists.now.items + 1 = omega (arith, a, c.len-place.ensures, c.args.lists.now.ok) in
     rw (c.in_ok-push.ensures.items, number) (by_cell-push c.args.numbers.now.items c.args.lists.now.items c.args.cell c.requires.owned none _ within c.new-entries.ensures.items)
 
@@ -21,6 +21,6 @@ returns-clause-owned g c =
     let a = c.in-Ok.ensures in
     let within = c.requires.cell in
     let none : get_or c.args.numbers.now.items c.args.cell 0 ≡ 0 =
-      get_or_default c.args.numbers.now.items c.args.cell 0 _ within ∙ sym c.index-number.ensures ∙ omega arith in
+    get_or_default c.args.numbers.now.items c.args.cell 0 _ within ∙ sym c.index-number.ensures ∙ omega arith in
     let number : c.in-Ok.number ≡ length c.args.lists.now.items + 1 = omega (arith, a, c.len-place.ensures, c.args.lists.now.ok) in
     rw (c.in_ok-push.ensures.items, number) (IsOwned-push c.args.numbers.now.items c.args.lists.now.items c.args.cell c.requires.owned none _ within refl)

@@ -18,7 +18,7 @@ returns-then-number-eq0 g c =
     let s = c.self.inside in
     let within = within-numbers s.numbers.items s.lists.items _ c.args.cell c.self.view_is c.requires in
     let zero-there : get_or s.numbers.items c.args.cell 0 ≡ 0 =
-      get_or_default s.numbers.items c.args.cell 0 _ within ∙ sym c.index-number.ensures ∙ c.if-number-eq0.true in
+    get_or_default s.numbers.items c.args.cell 0 _ within ∙ sym c.index-number.ensures ∙ c.if-number-eq0.true in
     sym (ap (λ s. at_cell s c.args.cell) (sym c.self.view_is) ∙ at_cell-by_cell s.numbers.items s.lists.items c.args.cell
     ∙ ap (numbered (contents s.lists.items)) zero-there)
 

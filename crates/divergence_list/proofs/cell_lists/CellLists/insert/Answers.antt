@@ -33,10 +33,10 @@ returns-clause-ok g c =
     let e = c.in-Ok.ensures in
     let named = e.place ∙ add-one c.in-Ok.number in
     let view = e.entries ∙ c.self.view_is in
-    elim c.match-insert.branch
-    [ in-Ok-insert w ↦ rw w.result-is (by_cell-writes c.make_list.new.numbers.items c.make_list.new.lists.items c.args.cell _ e.owned named _ _ _ (λ es. insert es c.args.index c.args.entry)
-      view c.requires.cell c.index_mut.ensures.value w.in-Ok-insert.ensures.items)
-    | in-Err w ↦ rw w.result-is tt
+    elim c.match-insert.branch [
+      | in-Ok-insert w ↦ rw w.result-is (by_cell-writes c.make_list.new.numbers.items c.make_list.new.lists.items c.args.cell _ e.owned named _ _ _ (λ es. insert es c.args.index c.args.entry)
+          view c.requires.cell c.index_mut.ensures.value w.in-Ok-insert.ensures.items)
+      | in-Err w ↦ rw w.result-is tt
     ]
 
 pub returns-clause-err : goal.returns-clause-err
@@ -44,8 +44,8 @@ returns-clause-err g c =
     let e = c.in-Ok.ensures in
     let named = e.place ∙ add-one c.in-Ok.number in
     let view = e.entries ∙ c.self.view_is in
-    elim c.match-insert.branch
-    [ in-Ok-insert w ↦ rw w.result-is tt
-    | in-Err w ↦ rw w.result-is (by_cell-writes c.make_list.new.numbers.items c.make_list.new.lists.items c.args.cell _ e.owned named _ _ _ (λ es. es)
-      view c.requires.cell c.index_mut.ensures.value w.in-Err.ensures.items ∙ set-get_or c.args.self.now c.args.cell [])
+    elim c.match-insert.branch [
+      | in-Ok-insert w ↦ rw w.result-is tt
+      | in-Err w ↦ rw w.result-is (by_cell-writes c.make_list.new.numbers.items c.make_list.new.lists.items c.args.cell _ e.owned named _ _ _ (λ es. es)
+          view c.requires.cell c.index_mut.ensures.value w.in-Err.ensures.items ∙ set-get_or c.args.self.now c.args.cell [])
     ]
