@@ -11,3 +11,6 @@ mod spread;
 
 pub use entry::Entry;
 pub use spread::Spread;
+
+#[cfg(test)]
+mod tests;

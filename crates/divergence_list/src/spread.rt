@@ -1,5 +1,5 @@
 //! The map from cells and faults to values.
-ghost use Rattle.std.specs.Prelude.{◌≡◌, ℕ, ◌<◌, ◌^◌, [], length, replicate, None, Some, OnOk, IfOk, IfErr, OnErr, IfSome, slice_get};
+ghost use Rattle.std.specs.Prelude.{◌≡◌, ℕ, ◌<◌, ◌^◌, length, None, Some, OnOk, IfOk, IfErr, OnErr, IfSome, slice_get};
 ghost use Rattle.std.specs.Option.{option_copied};
 ghost use Rattle.divergence_list.specs.Order.{rank};
 ghost use Rattle.divergence_list.specs.Entries.{IsRising, at_cell, entry_at, count, ChangesOnly, DropsFault};
@@ -37,7 +37,7 @@ impl<V> Model for Spread<V> {
 impl<V: Drop> Spread<V> {
     /// A map of so many cells without entries.
     pub fn new(alloc: Global, cells: u32) -> Result<Spread<V>, AllocError>
-        ensures cells { IfOk result (λ spread. spread ≡ replicate cells []) }
+        ensures cells { IfOk result (λ spread. length spread ≡ cells) }
         ensures empty { IfOk result (λ spread. (cell fault : ℕ) → entry_at spread cell fault ≡ None) }
     {
         let lists = CellLists::new(alloc, cells)?;
@@ -84,6 +84,7 @@ impl<V: Drop> Spread<V> {
         requires { cell < length self.old }
         ensures old { IfOk result (λ old. old ≡ entry_at self.old cell fault) }
         ensures changed { OnOk result (ChangesOnly self.old self.new cell fault (Some value)) }
+        ensures cells { length self.new ≡ length self.old }
         ensures absent { OnErr result (entry_at self.old cell fault ≡ None) }
         ensures err { OnErr result (self.new ≡ self.old) }
         ensures value_back { IfErr result (λ back. back ≡ value) }
