@@ -1,17 +1,17 @@
 -- What a change of one cell's list leaves of the whole map.
-use Rattle.std.proofs.Common.{◌≡◌, ℕ, suc, zero, ◌+◌, ◌*◌, ◌<◌, ◌≤◌, ◌^◌, Bool, true, false, cond, ◌&&◌, eqb, List, [], ◌∷◌, length, get_or, set, replicate, Option, None, Some, refl, sym, ap, ◌∙◌, arith}
+use Rattle.std.proofs.Common.{◌≡◌, ℕ, suc, ◌+◌, ◌*◌, ◌<◌, ◌≤◌, ◌^◌, Bool, true, false, cond, ◌&&◌, eqb, List, [], ◌∷◌, length, set, Option, None, Some, refl, sym, ap, ◌∙◌, arith}
 use Rattle.std.specs.Option.{is_some}
 use Rattle.std.specs.Option.{IsSome}
-use Rattle.std.specs.List.{sum_by, insert, remove}
-use Rattle.std.proofs.lemmas.Bool.{eqb-true, eqb-false, true≢false, false≢true, and_parts}
-use Rattle.std.proofs.lemmas.List.{length-set, get_or-set_same, get_or-set_other, get_or_past}
+use Rattle.std.specs.List.{insert, remove}
+use Rattle.std.proofs.lemmas.Bool.{eqb-true, eqb-false, and_parts}
+use Rattle.std.proofs.lemmas.List.{length-set, get_or-set_same, get_or-set_other}
 use Rattle.std.proofs.lemmas.List.Sums.{sum_by-set, sum_by-cons}
 use Rattle.std.proofs.lemmas.List.Edits.{length-insert, length-remove}
 use Rattle.divergence_list.specs.declared.entry.Entry.{Entry}
 use Rattle.divergence_list.specs.declared.fault_cells.FaultCells.{FaultCells}
 use Rattle.divergence_list.specs.Entries.{entry_in, at_cell, entry_at, count, ChangesOnly}
-use Rattle.divergence_list.specs.Order.{RisesWithin, IsCellList, rank}
-use Rattle.divergence_list.specs.Kept.{has_cell, IsSound, IsSpread}
+use Rattle.divergence_list.specs.Order.{IsCellList, rank}
+use Rattle.divergence_list.specs.Kept.{has_cell, IsSound}
 use Rattle.divergence_list.proofs.Rising.{by_cases, length-RisesWithin, rank-le-length, rank-within, entry_in-insert, RisesWithin-insert, entry_in-set, RisesWithin-set, entry_in-remove, RisesWithin-remove}
 
 module _ {V : Type 0} where
@@ -28,7 +28,11 @@ module _ {V : Type 0} where
       → cell < length s → ((g : ℕ) → entry_in es g ≡ cond (eqb f g) value (entry_in (at_cell s cell) g))
       → ChangesOnly s (set s cell es) cell f value
   ChangesOnly-set s cell es f value within step =
-      record { cells = length-set s cell es; entries = λ c g. ap (λ xs. entry_in xs g) (at_cell-set s cell es c within) ∙ at c g }
+      record {
+        cells = length-set s cell es;
+        entries = λ c g. ap (λ xs. entry_in xs g) (at_cell-set s cell es c within) ∙ at c g;
+        others = λ c apart. get_or-set_other s cell c es [] apart;
+      }
     where
       at : (c g : ℕ) → entry_in (cond (eqb cell c) es (at_cell s c)) g
           ≡ cond (eqb cell c && eqb f g) value (entry_at s c g)
@@ -36,18 +40,6 @@ module _ {V : Type 0} where
           by_cases (eqb cell c)
           (λ q. rw q (step g ∙ ap (λ i. cond (eqb f g) value (entry_at s i g)) (eqb-true cell c q)))
           (λ q. rw q refl)
-
-  -- nothing changed where there was nothing
-  pub ChangesOnly-none : (s : List (List (Entry V))) (cell f : ℕ) → entry_at s cell f ≡ None
-      → ChangesOnly s s cell f None
-  ChangesOnly-none s cell f none =
-      record {
-        cells = refl;
-        entries = λ c g. by_cases (eqb cell c && eqb f g)
-            (λ q. rw q (let both = and_parts (eqb cell c) (eqb f g) q in
-            ap (λ i. entry_at s i g) (sym (eqb-true cell c both.0)) ∙ ap (entry_at s cell) (sym (eqb-true f g both.1)) ∙ none))
-            (λ q. rw q refl);
-      }
 
   pub IsSound-set : (s : List (List (Entry V))) (cell : ℕ) (es : List (Entry V)) → cell < length s → IsSound s
       → IsCellList es → IsSound (set s cell es)

@@ -1,5 +1,5 @@
 -- A finite map from cells and faults to values, as the list of its cells: each has its entries, with faults rising.
-use Rattle.std.specs.Prelude.{ℕ, ◌==◌, ◌≡◌, ◌&&◌, List, [], ◌∷◌, length, map, sum_by, Option, None, Some, if◌then◌else◌, slice_index_or}
+use Rattle.std.specs.Prelude.{ℕ, ◌==◌, ◌≡◌, ◌≢◌, ◌&&◌, List, [], ◌∷◌, length, map, sum_by, Option, None, Some, if◌then◌else◌, slice_index_or}
 use Rattle.std.specs.List.Sorted.{IsStrictlyIncreasing}
 use Rattle.divergence_list.specs.declared.entry.Entry.{Entry}
 
@@ -26,11 +26,13 @@ module _ {V : Type 0} where
   abbrev pub count : List (List (Entry V)) → ℕ
   count cells = sum_by length cells
 
-  -- new has this value, or none, at the cell and the fault, and all else as old has it
+  -- new has this value, or none, at the cell and the fault, and all else as old has it; the lists of
+  -- other cells are the same
   pub record ChangesOnly (old new : List (List (Entry V))) (cell fault : ℕ) (value : Option V) : Type 0 where
     pub cells : length new ≡ length old
     pub entries : (c f : ℕ)
         → entry_at new c f ≡ (if (cell == c) && (fault == f) then value else entry_at old c f)
+    pub others : (c : ℕ) → c ≢ cell → at_cell new c ≡ at_cell old c
 
   -- new has nothing of the fault, and all else as old has it
   pub record DropsFault (old new : List (List (Entry V))) (fault : ℕ) : Type 0 where

@@ -125,7 +125,7 @@ fn make_list<V: Drop>(
     let Ok(number) = u32::try_from(place + 1) else {
         return Err(AllocError);
     };
-    let entries = Vec::new(*lists.allocator());
+    let entries = Vec::with_capacity(*lists.allocator(), 1)?;
     lists.push(CellList { cell, entries })?;
     numbers[cell as usize] = number;
     Ok(place)

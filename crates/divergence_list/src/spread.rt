@@ -121,6 +121,7 @@ impl<V: Drop> Spread<V> {
             self.entries -= drop_entries(&mut self.lists, cells, fault);
         }
     }
+
     /// Puts an entry of a fault that has none at the cell into its place.
     fn insert(&mut self, cell: u32, place: usize, fault: u32, value: V) -> Result<(), V>
         requires cell { cell < length self.old }

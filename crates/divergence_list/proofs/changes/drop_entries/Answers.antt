@@ -1,9 +1,9 @@
 -- Each step drops what it takes off the cells that are left.
-use Rattle.std.proofs.Common.{◌≡◌, ◌+◌, ◌<◌, ℕ, Bool, true, false, cond, ◌&&◌, ◌||◌, eqb, List, ◌∷◌, length, Option, None, refl, sym, ap, ◌∙◌, arith}
+use Rattle.std.proofs.Common.{◌≡◌, ℕ, Bool, true, false, cond, ◌&&◌, ◌||◌, eqb, List, ◌∷◌, None, refl, sym, ap, ◌∙◌, arith}
 use Rattle.std.specs.List.{list_any}
 use Rattle.std.proofs.lemmas.Bool.{eqb-true, eqb-false, eq-eqb, ne_eqb}
 use Rattle.divergence_list.specs.declared.entry.Entry.{Entry}
-use Rattle.divergence_list.specs.Entries.{entry_at, count, ChangesOnly}
+use Rattle.divergence_list.specs.Entries.{entry_at, ChangesOnly}
 use Rattle.divergence_list.proofs.Rising.{by_cases}
 use Rattle.divergence_list.proofs.changes.drop_entries.Goals as goal
 

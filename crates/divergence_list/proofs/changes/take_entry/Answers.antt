@@ -1,7 +1,6 @@
 -- The entry stands at the rank of its fault.
-use Rattle.std.proofs.Common.{◌≡◌, ◌^◌, sym, ap, ◌∙◌, arith}
-use Rattle.divergence_list.specs.Entries.{at_cell, entry_in}
-use Rattle.divergence_list.specs.Order.{rank}
+use Rattle.std.proofs.Common.{◌^◌}
+use Rattle.divergence_list.specs.Entries.{at_cell}
 use Rattle.divergence_list.proofs.Rising.{rank-within, value-at_rank}
 use Rattle.divergence_list.proofs.Writes.{ChangesOnly-remove, IsSound-remove, count-remove}
 use Rattle.divergence_list.proofs.changes.take_entry.Goals as goal

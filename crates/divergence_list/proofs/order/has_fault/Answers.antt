@@ -1,9 +1,6 @@
 -- Only the entry at the rank can have the fault.
-use Rattle.std.proofs.Common.{◌≡◌, ◌≤◌, ◌<◌, ◌^◌, length, sym, ap, ◌∙◌, arith, get_or, eqb}
-use Rattle.std.specs.Option.{is_some}
+use Rattle.std.proofs.Common.{◌^◌, length, sym, ◌∙◌}
 use Rattle.std.proofs.lemmas.Bool.{le-ltb}
-use Rattle.divergence_list.specs.Entries.{entry_in}
-use Rattle.divergence_list.specs.Order.{rank}
 use Rattle.divergence_list.proofs.Rising.{is_some-at_rank, is_some-past_end}
 use Rattle.divergence_list.proofs.order.has_fault.Goals as goal
 

@@ -1,5 +1,5 @@
 -- The number of a cell's list leads to that list.
-use Rattle.std.proofs.Common.{◌≡◌, ◌-◌, ◌<◌, suc, length, get_or, sym, ap, ◌∙◌, arith}
+use Rattle.std.proofs.Common.{◌≡◌, get_or, sym, ap, ◌∙◌, arith}
 use Rattle.std.proofs.lemmas.List.{get_or_default}
 use Rattle.divergence_list.specs.Entries.{at_cell}
 use Rattle.divergence_list.specs.Parts.{numbered, contents}

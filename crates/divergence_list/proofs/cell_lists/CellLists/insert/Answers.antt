@@ -1,8 +1,7 @@
 -- The cell's list is that of its number, and alone is written.
-use Rattle.std.proofs.Common.{◌≡◌, ◌-◌, ◌<◌, ◌≤◌, suc, length, get_or, refl, sym, ap, ◌∙◌, arith, add-one, []}
+use Rattle.std.proofs.Common.{length, refl, sym, ap, ◌∙◌, arith, add-one, []}
 use Rattle.std.specs.List.{insert}
 use Rattle.std.proofs.lemmas.List.{set-get_or}
-use Rattle.std.proofs.Math.ListN.{set}
 use Rattle.divergence_list.specs.Entries.{at_cell}
 use Rattle.divergence_list.proofs.Owned.{list-there, at_cell-read, by_cell-writes, IsOwned-write}
 use Rattle.divergence_list.proofs.cell_lists.CellLists.insert.Goals as goal

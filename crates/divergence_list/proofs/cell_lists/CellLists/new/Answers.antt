@@ -1,5 +1,5 @@
 -- No cell has a list.
-use Rattle.std.proofs.Common.{◌≡◌, [], replicate, sym, ap, ◌∙◌}
+use Rattle.std.proofs.Common.{[]}
 use Rattle.divergence_list.specs.Parts.{numbered, contents}
 use Rattle.divergence_list.proofs.Owned.{map-replicate}
 use Rattle.divergence_list.proofs.cell_lists.CellLists.new.Goals as goal

@@ -1,9 +1,8 @@
 -- The cell's list is that of its number, and alone is written.
-use Rattle.std.proofs.Common.{◌≡◌, ◌-◌, ◌<◌, ◌≤◌, suc, length, get_or, refl, sym, ap, ◌∙◌, arith}
-use Rattle.std.specs.List.{insert, remove}
-use Rattle.std.proofs.Math.ListN.{set}
+use Rattle.std.proofs.Common.{length, get_or, refl, sym, ap, ◌∙◌, arith}
+use Rattle.std.specs.List.{remove}
 use Rattle.divergence_list.specs.Entries.{at_cell}
-use Rattle.divergence_list.proofs.Owned.{number-of_entries, list-there, at_cell-read, by_cell-writes, IsOwned-write}
+use Rattle.divergence_list.proofs.Owned.{number-of_entries, at_cell-read, by_cell-writes, IsOwned-write}
 use Rattle.divergence_list.proofs.cell_lists.CellLists.remove.Goals as goal
 
 pub remove-requires : goal.remove-requires

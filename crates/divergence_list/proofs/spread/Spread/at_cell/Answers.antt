@@ -1,6 +1,5 @@
 -- The entries of a cell have rising faults.
-use Rattle.std.proofs.Common.{◌^◌, sym, ap, ◌∙◌}
-use Rattle.divergence_list.specs.Entries.{at_cell, entry_in, IsRising}
+use Rattle.std.proofs.Common.{◌^◌}
 use Rattle.divergence_list.proofs.Rising.{each-RisesWithin, IsRising-RisesWithin}
 use Rattle.divergence_list.proofs.spread.Spread.at_cell.Goals as goal
 

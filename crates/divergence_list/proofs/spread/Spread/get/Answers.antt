@@ -1,6 +1,6 @@
 -- The entry stands at the rank of its fault.
-use Rattle.std.proofs.Common.{◌≡◌, ◌^◌, Some, sym, ap, ◌∙◌, arith}
-use Rattle.divergence_list.specs.Entries.{at_cell, entry_in, entry_at}
+use Rattle.std.proofs.Common.{◌^◌, Some, sym, ap, ◌∙◌, arith}
+use Rattle.divergence_list.specs.Entries.{entry_in, entry_at}
 use Rattle.divergence_list.proofs.Rising.{rank-within, value-at_rank}
 use Rattle.divergence_list.proofs.spread.Spread.get.Goals as goal
 

@@ -1,7 +1,5 @@
 -- The entry goes to the rank of its fault.
-use Rattle.std.proofs.Common.{◌≡◌, ◌^◌, ◌*◌, ◌<◌, ◌≤◌, Some, length, sym, ap, ◌∙◌, arith}
-use Rattle.divergence_list.specs.Entries.{at_cell, entry_in, entry_at, count, ChangesOnly}
-use Rattle.divergence_list.specs.Order.{rank}
+use Rattle.std.proofs.Common.{◌^◌, ◌<◌, Some, arith}
 use Rattle.divergence_list.proofs.Rising.{rank-le-length}
 use Rattle.divergence_list.proofs.Writes.{ChangesOnly-insert, IsSound-insert, count-insert, count-fits, kept-changes}
 use Rattle.divergence_list.proofs.spread.Spread.insert.Goals as goal

@@ -1,7 +1,6 @@
 -- The entry stands at the rank of its fault.
-use Rattle.std.proofs.Common.{◌≡◌, ◌<◌, ◌^◌, length, sym, ap, ◌∙◌, arith}
-use Rattle.divergence_list.specs.Entries.{at_cell, entry_in, entry_at, ChangesOnly}
-use Rattle.divergence_list.specs.Order.{rank}
+use Rattle.std.proofs.Common.{◌^◌, sym, ap, ◌∙◌}
+use Rattle.divergence_list.specs.Entries.{at_cell, entry_at}
 use Rattle.divergence_list.proofs.Rising.{rank-within, value-at_rank}
 use Rattle.divergence_list.proofs.Writes.{ChangesOnly-replace, IsSound-replace, count-replace, kept-stays}
 use Rattle.divergence_list.proofs.spread.Spread.set.Goals as goal
