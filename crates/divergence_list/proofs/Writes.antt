@@ -11,7 +11,7 @@ use Rattle.divergence_list.specs.declared.entry.Entry.{Entry}
 use Rattle.divergence_list.specs.declared.fault_cells.FaultCells.{FaultCells}
 use Rattle.divergence_list.specs.Entries.{entry_in, at_cell, entry_at, count, ChangesOnly}
 use Rattle.divergence_list.specs.Order.{IsCellList, rank}
-use Rattle.divergence_list.specs.Kept.{has_cell, IsSound}
+use Rattle.divergence_list.specs.Invariant.{has_cell, IsSound}
 use Rattle.divergence_list.proofs.Rising.{by_cases, length-RisesWithin, rank-le-length, rank-within, entry_in-insert, RisesWithin-insert, entry_in-set, RisesWithin-set, entry_in-remove, RisesWithin-remove}
 
 module _ {V : Type 0} where

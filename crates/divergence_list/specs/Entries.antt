@@ -1,4 +1,5 @@
--- A finite map from cells and faults to values, as the list of its cells: each has its entries, with faults rising.
+-- A finite map from cells and faults to values, as the list of its cells. Each cell is the list of
+-- its entries, with faults rising.
 use Rattle.std.specs.Prelude.{ℕ, ◌==◌, ◌≡◌, ◌≢◌, ◌&&◌, List, [], ◌∷◌, length, map, sum_by, Option, None, Some, if◌then◌else◌, slice_index_or}
 use Rattle.std.specs.List.Sorted.{IsStrictlyIncreasing}
 use Rattle.divergence_list.specs.declared.entry.Entry.{Entry}
@@ -26,8 +27,8 @@ module _ {V : Type 0} where
   abbrev pub count : List (List (Entry V)) → ℕ
   count cells = sum_by length cells
 
-  -- new has this value, or none, at the cell and the fault, and all else as old has it; the lists of
-  -- other cells are the same
+  -- new has this value, or none, at the cell and the fault, and all else as old has it; the lists
+  -- of other cells are the same
   pub record ChangesOnly (old new : List (List (Entry V))) (cell fault : ℕ) (value : Option V) : Type 0 where
     pub cells : length new ≡ length old
     pub entries : (c f : ℕ)

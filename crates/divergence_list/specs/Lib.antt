@@ -1,4 +1,4 @@
 pub mod Entries
-pub mod Kept
+pub mod Invariant
 pub mod Order
 pub mod Parts

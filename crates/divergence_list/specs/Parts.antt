@@ -1,4 +1,4 @@
--- What only the bodies and proofs of this crate use: how the lists of the cells lie in memory, and where the cells of a fault are kept.
+-- What only the bodies and proofs of this crate use: how the lists of the cells lie in memory.
 use Rattle.std.specs.Prelude.{ℕ, zero, suc, ◌≡◌, ◌<◌, List, [], length, map, slice_index, slice_index_or}
 use Rattle.divergence_list.specs.declared.entry.Entry.{Entry}
 use Rattle.divergence_list.specs.declared.cell_lists.CellList.{CellList}

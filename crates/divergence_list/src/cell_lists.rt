@@ -59,7 +59,7 @@ impl<V: Drop> CellLists<V> {
         }
         self.lists[number as usize - 1].entries.as_slice()
     }
-    /// Puts an entry into a cell's list, before the entry at the index. Want of memory hands it back.
+    /// Puts an entry into a cell's list, before that at the index. Want of memory hands it back.
     pub(crate) fn insert(
         &mut self,
         cell: u32,
@@ -68,7 +68,8 @@ impl<V: Drop> CellLists<V> {
     ) -> Result<(), Entry<V>>
         requires cell { cell < length self.old }
         requires index { index ≤ length (at_cell self.old cell) }
-        ensures ok { OnOk result (self.new ≡ slice_set self.old cell (insert (at_cell self.old cell) index entry)) }
+        ensures ok { OnOk result
+            (self.new ≡ slice_set self.old cell (insert (at_cell self.old cell) index entry)) }
         ensures err { OnErr result (self.new ≡ self.old) }
         ensures entry_back { IfErr result (λ back. back ≡ entry) }
     {
@@ -86,7 +87,8 @@ impl<V: Drop> CellLists<V> {
         requires cell { cell < length self.old }
         requires index { index < length (at_cell self.old cell) }
         ensures entry { result ≡ slice_index_or (at_cell self.old cell) index result }
-        ensures lists { self.new ≡ slice_set self.old cell (slice_set (at_cell self.old cell) index entry) }
+        ensures lists { self.new
+            ≡ slice_set self.old cell (slice_set (at_cell self.old cell) index entry) }
     {
         let number = self.numbers[cell as usize] as usize - 1;
         mem::replace(&mut self.lists[number].entries[index], entry)
@@ -112,7 +114,8 @@ fn make_list<V: Drop>(
 ) -> Result<usize, AllocError>
     requires cell { cell < length numbers.old.items }
     requires owned { IsOwned numbers.old.items (owners lists.old.items) }
-    ensures entries { by_cell numbers.new.items lists.new.items ≡ by_cell numbers.old.items lists.old.items }
+    ensures entries { by_cell numbers.new.items lists.new.items
+        ≡ by_cell numbers.old.items lists.old.items }
     ensures owned { IsOwned numbers.new.items (owners lists.new.items) }
     ensures cells { length numbers.new.items ≡ length numbers.old.items }
     ensures place { IfOk result (λ place. slice_index numbers.new.items cell ≡ place + 1) }

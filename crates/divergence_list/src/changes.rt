@@ -2,7 +2,7 @@
 ghost use Rattle.std.specs.Prelude.{◌≡◌, ℕ, ◌+◌, ◌<◌, ◌^◌, ◌==◌, ◌&&◌, length, None, is_some, nat_eq, IsTrue, if◌then◌else◌};
 ghost use Rattle.std.specs.HashSet.{contains};
 ghost use Rattle.divergence_list.specs.Entries.{entry_at, count, ChangesOnly};
-ghost use Rattle.divergence_list.specs.Kept.{IsSound};
+ghost use Rattle.divergence_list.specs.Invariant.{IsSound};
 
 use crate::cell_lists::CellLists;
 use crate::order::search;

@@ -1,6 +1,6 @@
 //! The cells at which each fault has an entry.
 ghost use Rattle.std.specs.Prelude.{◌≡◌, ℕ, ◌==◌, ◌&&◌, Bool, true, false, OnOk, OnErr, if◌then◌else◌};
-ghost use Rattle.divergence_list.specs.Kept.{has_cell, is_in};
+ghost use Rattle.divergence_list.specs.Invariant.{has_cell, is_in};
 
 use std::alloc::{AllocError, Global};
 use std::collections::{HashMap, HashSet};
@@ -25,8 +25,8 @@ impl FaultCells {
 
     /// Puts a cell into the set of a fault.
     pub(crate) fn add(&mut self, fault: u32, cell: u32) -> Result<(), AllocError>
-        ensures ok { OnOk result ((f c : ℕ)
-            → has_cell self.new f c ≡ (if (cell == c) && (fault == f) then true else has_cell self.old f c)) }
+        ensures ok { OnOk result ((f c : ℕ) → has_cell self.new f c
+            ≡ (if (cell == c) && (fault == f) then true else has_cell self.old f c)) }
         ensures err { OnErr result ((f c : ℕ) → has_cell self.new f c ≡ has_cell self.old f c) }
     {
         if let Some(cells) = self.by_fault.get_mut(&fault) {
@@ -41,8 +41,8 @@ impl FaultCells {
 
     /// Takes a cell out of the set of a fault.
     pub(crate) fn remove(&mut self, fault: u32, cell: u32)
-        ensures { (f c : ℕ)
-            → has_cell self.new f c ≡ (if (cell == c) && (fault == f) then false else has_cell self.old f c) }
+        ensures { (f c : ℕ) → has_cell self.new f c
+            ≡ (if (cell == c) && (fault == f) then false else has_cell self.old f c) }
     {
         if let Some(cells) = self.by_fault.get_mut(&fault) {
             cells.remove(&cell);
@@ -55,7 +55,8 @@ impl FaultCells {
     /// Takes the cells of a fault out.
     pub(crate) fn take(&mut self, fault: u32) -> Option<HashSet<u32>>
         ensures cells { (c : ℕ) → is_in result c ≡ has_cell self.old fault c }
-        ensures others { (f c : ℕ) → has_cell self.new f c ≡ (if fault == f then false else has_cell self.old f c) }
+        ensures others { (f c : ℕ) → has_cell self.new f c
+            ≡ (if fault == f then false else has_cell self.old f c) }
     {
         self.by_fault.remove(&fault)
     }

@@ -12,38 +12,39 @@ use crate::order::search;
 use std::alloc::{AllocError, Global};
 use std::marker::Model;
 
-/// A finite map from cells and faults to values. Contracts see a list with the entries of each cell.
+/// A finite map from cells and faults to values. Contracts see the list of the cells, each the list
+/// of its entries.
 ///
 /// Cells are numbered from 0. A fault may have any number. A cell without entries costs four bytes.
 #[derive(Drop)]
 pub struct Spread<V> {
     lists: CellLists<V>,
-    kept: FaultCells,
+    fault_cells: FaultCells,
     entries: u64,
 }
 
 impl<V> Model for Spread<V> {
     ghost use Rattle.std.specs.Prelude.{List};
     ghost use Rattle.divergence_list.specs.declared.entry.Entry.{Entry};
-    ghost use Rattle.divergence_list.specs.Kept.{IsSpread};
+    ghost use Rattle.divergence_list.specs.Invariant.{IsSpread};
 
     ghost Value = { List (List (Entry V)) };
 
     ghost view = { λ s. s.lists };
 
-    ghost invariant = { λ s. IsSpread s.lists s.kept s.entries };
+    ghost invariant = { λ s. IsSpread s.lists s.fault_cells s.entries };
 }
 
 impl<V: Drop> Spread<V> {
     /// A map of so many cells without entries.
     pub fn new(alloc: Global, cells: u32) -> Result<Spread<V>, AllocError>
         ensures cells { IfOk result (λ spread. length spread ≡ cells) }
-        ensures empty { IfOk result (λ spread. (cell fault : ℕ) → entry_at spread cell fault ≡ None) }
+        ensures empty { IfOk result (λ spread. (c f : ℕ) → entry_at spread c f ≡ None) }
     {
         let lists = CellLists::new(alloc, cells)?;
         Ok(Spread {
             lists,
-            kept: FaultCells::new(alloc),
+            fault_cells: FaultCells::new(alloc),
             entries: 0,
         })
     }
@@ -78,8 +79,8 @@ impl<V: Drop> Spread<V> {
         }
     }
 
-    /// Gives a fault a value at a cell, and answers the one that it had there. Want of memory hands the
-    /// value back, and never comes where the fault has a value at the cell.
+    /// Gives a fault a value at a cell, and answers the one that it had there. Want of memory hands
+    /// the value back, and never comes where the fault has a value at the cell.
     pub fn set(&mut self, cell: u32, fault: u32, value: V) -> Result<Option<V>, V>
         requires { cell < length self.old }
         ensures old { IfOk result (λ old. old ≡ entry_at self.old cell fault) }
@@ -108,7 +109,7 @@ impl<V: Drop> Spread<V> {
         ensures changed { ChangesOnly self.old self.new cell fault None }
     {
         let value = take_entry(&mut self.lists, cell, fault)?;
-        self.kept.remove(fault, cell);
+        self.fault_cells.remove(fault, cell);
         self.entries -= 1;
         Some(value)
     }
@@ -117,7 +118,7 @@ impl<V: Drop> Spread<V> {
     pub fn drop_fault(&mut self, fault: u32)
         ensures { DropsFault self.old self.new fault }
     {
-        if let Some(cells) = self.kept.take(fault) {
+        if let Some(cells) = self.fault_cells.take(fault) {
             self.entries -= drop_entries(&mut self.lists, cells, fault);
         }
     }
@@ -131,7 +132,7 @@ impl<V: Drop> Spread<V> {
         ensures err { OnErr result (self.new ≡ self.old) }
         ensures value_back { IfErr result (λ back. back ≡ value) }
     {
-        let Ok(()) = self.kept.add(fault, cell) else {
+        let Ok(()) = self.fault_cells.add(fault, cell) else {
             return Err(value);
         };
         match self.lists.insert(cell, place, Entry { fault, value }) {
@@ -140,7 +141,7 @@ impl<V: Drop> Spread<V> {
                 Ok(())
             }
             Err(refused) => {
-                self.kept.remove(fault, cell);
+                self.fault_cells.remove(fault, cell);
                 Err(refused.value)
             }
         }

@@ -3,7 +3,7 @@ use Rattle.std.proofs.Common.{◌≡◌, ◌+◌, ◌<◌, ℕ, true, cond, ◌&
 use Rattle.std.specs.List.{list_any}
 use Rattle.std.specs.HashSet.{contains}
 use Rattle.divergence_list.specs.Entries.{entry_at, count}
-use Rattle.divergence_list.specs.Kept.{IsSound}
+use Rattle.divergence_list.specs.Invariant.{IsSound}
 use Rattle.divergence_list.proofs.changes.drop_entries.Given as goal
 
 abbrev pub invariant-loop-cell : goal.invariant-loop-cell

@@ -32,7 +32,7 @@ invariant_of-self-in-Ok-insert g c =
     let change = ChangesOnly-insert s c.args.cell c.args.fault c.args.place c.self.invariant.sound within place absent fits c.args.value _ made in
     record {
       sound = IsSound-insert s c.args.cell c.args.fault c.args.place c.self.invariant.sound within place absent fits c.args.value _ made;
-      kept = kept-changes c.self.inside.kept c.add.new.self s _ c.args.cell c.args.fault (Some c.args.value) c.self.invariant.kept c.in-Ok.ensures.ok change;
+      fault_cells = kept-changes c.self.inside.fault_cells c.add.new.self s _ c.args.cell c.args.fault (Some c.args.value) c.self.invariant.fault_cells c.in-Ok.ensures.ok change;
       counted = omega (arith, count-insert s c.args.cell c.args.fault c.args.place c.self.invariant.sound within place absent fits c.args.value _ made, c.self.invariant.counted);
       few = rw change.cells c.self.invariant.few;
     }

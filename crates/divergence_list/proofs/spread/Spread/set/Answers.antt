@@ -21,7 +21,7 @@ invariant_of-self g c =
     let change = ChangesOnly-replace s c.args.cell c.args.fault c.in-Ok.place c.self.invariant.sound within place there c.args.value _ c.replace.ensures.lists in
     record {
       sound = IsSound-replace s c.args.cell c.args.fault c.in-Ok.place c.self.invariant.sound within place there c.args.value _ c.replace.ensures.lists;
-      kept = kept-stays c.self.inside.kept s _ c.args.cell c.args.fault c.args.value c.self.invariant.kept there change;
+      fault_cells = kept-stays c.self.inside.fault_cells s _ c.args.cell c.args.fault c.args.value c.self.invariant.fault_cells there change;
       counted = c.self.invariant.counted ∙ sym (count-replace s c.args.cell c.args.fault c.in-Ok.place c.self.invariant.sound within place there c.args.value _ c.replace.ensures.lists);
       few = rw change.cells c.self.invariant.few;
     }

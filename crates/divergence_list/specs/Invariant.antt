@@ -1,4 +1,4 @@
--- What only the bodies and proofs of this crate use: the cells that are kept for each fault, and what is true of every spread.
+-- What only the bodies and proofs of this crate use: the cells of each fault, and what is true of every spread.
 use Rattle.std.specs.Prelude.{ℕ, ◌≡◌, ◌<◌, ◌^◌, Bool, false, List, length, Option, None, Some, is_some, nat_eq}
 use Rattle.std.specs.HashMap as map
 use Rattle.std.specs.HashSet as set
@@ -12,9 +12,9 @@ abbrev pub is_in : {S : Type 0} → Option (set.HashSet ℕ S) → ℕ → Bool
 is_in None cell = false
 is_in (Some cells) cell = set.contains nat_eq cells cell
 
--- the cell is kept for the fault
+-- the cell is among those of the fault
 abbrev pub has_cell : FaultCells → ℕ → ℕ → Bool
-has_cell kept fault cell = is_in (map.get nat_eq kept.by_fault fault) cell
+has_cell cells fault cell = is_in (map.get nat_eq cells.by_fault fault) cell
 
 module _ {V : Type 0} where
   -- each cell has its entries in order
@@ -24,6 +24,6 @@ module _ {V : Type 0} where
   -- lists of entries by cell, with the cells of each fault and the number of entries
   pub record IsSpread (cells : List (List (Entry V))) (by_fault : FaultCells) (total : ℕ) : Type 0 where
     pub sound : IsSound cells
-    pub kept : (f c : ℕ) → has_cell by_fault f c ≡ is_some (entry_at cells c f)
+    pub fault_cells : (f c : ℕ) → has_cell by_fault f c ≡ is_some (entry_at cells c f)
     pub counted : total ≡ count cells
     pub few : length cells < 2 ^ 32
