@@ -1,0 +1,4 @@
+pub mod Entries
+pub mod Invariant
+pub mod Order
+pub mod Parts
