@@ -1,2 +1,3 @@
 pub mod Delay
 pub mod Inertia
+pub mod Ticks
