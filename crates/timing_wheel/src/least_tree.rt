@@ -46,6 +46,13 @@ impl LeastTree {
         Ok(LeastTree { cells, leaves })
     }
 
+    /// How many leaves there are.
+    pub(crate) fn len(&self) -> usize
+        ensures { result ≡ length self.now }
+    {
+        self.leaves
+    }
+
     /// The time of a leaf.
     pub(crate) fn time(&self, leaf: usize) -> u64
         requires { leaf < length self.now }

@@ -3,3 +3,4 @@
 
 mod chains;
 mod least_tree;
+mod schedule;
