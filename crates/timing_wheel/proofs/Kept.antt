@@ -2,7 +2,7 @@
 use Rattle.std.proofs.Common.{◌≡◌, ◌≢◌, ℕ, suc, ◌+◌, ◌<◌, ◌≤◌, List, length, min, replicate, ◌^◌, get_or, set, refl, sym, ap, subst, ◌∙◌, arith, inl, inr, ◌⊎◌}
 use Rattle.std.proofs.lemmas.Bool.{cases_lt, cases_eq}
 use Rattle.std.proofs.lemmas.List.{get_or-set_same, get_or-set_other, length-set, length-replicate, get_or-replicate, set-get_or}
-use Rattle.timing_wheel.specs.Times.{idle, IsLeastOf}
+use Rattle.timing_wheel.specs.Times.{idle, IsLeastOf, AllIdle}
 use Rattle.timing_wheel.specs.Links.{Placement}
 use Rattle.timing_wheel.specs.Slots.{IsKept, near, resting, distant, IsSchedule}
 use Rattle.timing_wheel.proofs.Rings.{stored}
@@ -245,3 +245,12 @@ IsSchedule-resting slots buckets chains lists size places some small =
       kept = λ s inside. resting (places s (omega arith) ∙ sym buckets_size) (get_or-replicate slots s idle 0 (omega arith)) (get_or-replicate slots s idle 0 (omega arith));
       used = λ other inside busy. absurd (busy (get_or-replicate buckets other idle 0 (omega arith)));
     }
+
+-- where neither has a time no slot is in use
+pub schedule_idle : (times : List ℕ) (chains : Placement) (ticks far : List ℕ) (near_least far_least : ℕ) → IsSchedule times chains ticks far → IsLeastOf ticks near_least → IsLeastOf far far_least
+    → min near_least far_least ≡ idle → AllIdle times
+schedule_idle times chains ticks far near_least far_least sound near_is far_is none s inside = elim (sound.kept s inside) [
+    | near low same short absent ↦ absurd (omega (arith, near_is.below (get_or chains.places s 0) low))
+    | resting at rest absent ↦ rest
+    | distant at short there ↦ absurd (omega (arith, far_is.below s (omega (arith, sound.far_size))))
+  ]

@@ -1,3 +1,5 @@
 pub mod Least
 pub mod Rings
 pub mod Kept
+pub mod Live
+pub mod Held

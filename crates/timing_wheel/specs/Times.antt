@@ -10,6 +10,10 @@ pub record IsLeastOf (times : List ℕ) (least : ℕ) : Type 0 where
   pub below : (i : ℕ) → i < length times → least ≤ slice_index times i
   pub reached : (least ≡ idle) ⊎ ((i : ℕ) × (i < length times) × (slice_index times i ≡ least))
 
+-- no time of the list is one at which something is due
+abbrev pub AllIdle : List ℕ → Type 0
+AllIdle times = (i : ℕ) → i < length times → slice_index times i ≡ idle
+
 -- cells 1 to leaves - 1 are each the smaller of the two below; the leaves follow them
 pub record IsLeastTree (cells : List ℕ) (leaves : ℕ) : Type 0 where
   pub size : length cells ≡ leaves + leaves

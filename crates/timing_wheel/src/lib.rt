@@ -2,5 +2,11 @@
 #![tactic(auto)]
 
 mod chains;
+mod index;
+mod key_list;
 mod least_tree;
 mod schedule;
+mod wheel;
+
+pub use key_list::KeyList;
+pub use wheel::Wheel;

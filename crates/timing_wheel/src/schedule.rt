@@ -1,6 +1,6 @@
 //! A time for each slot, with the least at hand: near times in buckets of one tick each, others in a tree.
 ghost use Rattle.std.specs.Prelude.{◌≡◌, ◌≢◌, ℕ, ◌+◌, ◌<◌, ◌^◌, ◌⊎◌, [], length, replicate, slice_set, slice_index, IfOk, IfSome, IfNone};
-ghost use Rattle.timing_wheel.specs.Times.{idle, IsLeastOf};
+ghost use Rattle.timing_wheel.specs.Times.{idle, IsLeastOf, AllIdle};
 
 use crate::chains::Chains;
 use crate::least_tree::{IDLE, LeastTree};
@@ -76,7 +76,8 @@ impl Schedule {
 
     /// The least time of a slot, or `IDLE` where none is in use.
     pub(crate) fn least(&self) -> u64
-        ensures { IsLeastOf self.now result }
+        ensures least { IsLeastOf self.now result }
+        ensures none { result ≡ idle → AllIdle self.now }
     {
         self.ticks.least().min(self.far.least())
     }
@@ -86,7 +87,7 @@ impl Schedule {
         ensures within { IfSome result (λ slot. slot < length self.now) }
         ensures used { IfSome result (λ slot. slice_index self.now slot < idle) }
         ensures least { IfSome result (λ slot. IsLeastOf self.now (slice_index self.now slot)) }
-        ensures none { IfNone result (IsLeastOf self.now idle) }
+        ensures none { IfNone result (AllIdle self.now) }
     {
         let near = self.ticks.least();
         let far = self.far.least();

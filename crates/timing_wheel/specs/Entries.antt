@@ -1,0 +1,25 @@
+-- Definitions that only code and proofs use: the entries of the slots that are in use.
+use Rattle.std.specs.Prelude.{◌≡◌, ◌≢◌, ℕ, ◌+◌, ◌<◌, ◌≤◌, ◌==◌, ◌^◌, List, [], ◌∷◌, length, slice_index, count_by, if◌then◌else◌}
+use Rattle.std.specs.FinMap.{from_entries}
+use Rattle.std.specs.HashMap.{hash_map_len, spare}
+use Rattle.timing_wheel.specs.Times.{idle}
+use Rattle.timing_wheel.specs.Index.{Table, IsIndexed}
+use Rattle.timing_wheel.specs.Wheel.{Pending}
+
+-- the key and the time of each slot that is in use
+abbrev pub live_entries : List ℕ → List ℕ → List (ℕ × ℕ)
+live_entries [] times = []
+live_entries (key ∷ keys) [] = []
+live_entries (key ∷ keys) (time ∷ times) = if time == idle then live_entries keys times else (key, time) ∷ live_entries keys times
+
+-- what a wheel holds
+abbrev pub pending : List ℕ → List ℕ → ℕ → Pending
+pending keys times room = record { times = from_entries (live_entries keys times); spare = room }
+
+-- slots are found by key, the table has room, and the slots that aren't in use are counted
+pub record IsWheel (keys times : List ℕ) (index : Table) (room : ℕ) : Type 0 where
+  pub size : length keys ≡ length times
+  pub small : length keys < 2 ^ 32
+  pub indexed : IsIndexed index keys times
+  pub table : length keys + length keys ≤ hash_map_len index + spare index
+  pub counted : room ≡ count_by (λ time. time == idle) times

@@ -1,0 +1,186 @@
+//! The finite map from keys to times.
+ghost use Rattle.std.specs.Prelude.{◌≡◌, ◌↔◌, ◌⊎◌, ℕ, List, ◌+◌, ◌-◌, ◌*◌, ◌^◌, ◌<◌, ◌≤◌, ◌++◌, length, is_some, if◌then◌else◌, IsTrue, IsNone, IfSome, IfNone, IfOk, OnOk, OnErr, Some};
+ghost use Rattle.std.specs.FinMap.{empty, get, contains_key, insert, remove};
+ghost use Rattle.timing_wheel.specs.Times.{idle};
+ghost use Rattle.timing_wheel.specs.Wheel.{IsLeastTime, IsLeastDue, NoneDue, TakesDue};
+
+use crate::index::{remember, slot_of};
+use crate::key_list::KeyList;
+use crate::least_tree::IDLE;
+use crate::schedule::Schedule;
+use std::alloc::{AllocError, Global};
+use std::collections::HashMap;
+use std::marker::Model;
+
+/// The most slots that a wheel may have.
+const MOST: usize = 4_000_000_000;
+
+/// Times by key, with the least time at hand. A time is a number of ticks, at most 2^48.
+///
+/// Contracts see the finite map from keys to times, and `spare`: how many new keys fit without more memory.
+#[derive(Drop)]
+pub struct Wheel {
+    keys: Vec<u32>,
+    index: HashMap<u32, u32>,
+    schedule: Schedule,
+    spare: u32,
+}
+
+impl Model for Wheel {
+    ghost use Rattle.timing_wheel.specs.Wheel.{Pending, pending_code};
+    ghost use Rattle.timing_wheel.specs.Entries.{pending, IsWheel};
+
+    ghost Value = { Pending };
+
+    ghost coded = { pending_code };
+
+    ghost view = { λ w. pending w.keys.items w.schedule w.spare };
+
+    ghost invariant = { λ w. IsWheel w.keys.items w.schedule w.index w.spare };
+}
+
+impl Wheel {
+    /// A wheel without keys. It takes no memory.
+    pub fn new(alloc: Global) -> Wheel
+        ensures times { result.times ≡ empty }
+        ensures spare { result.spare ≡ 0 }
+    {
+        Wheel {
+            keys: Vec::new(alloc),
+            index: HashMap::new(alloc),
+            schedule: Schedule::new(alloc),
+            spare: 0,
+        }
+    }
+
+    /// A wheel without keys that has room for so many.
+    fn with_slots(alloc: Global, slots: u32) -> Result<Wheel, AllocError>
+        requires { slots ≤ 4000000000 }
+        ensures times { IfOk result (λ wheel. wheel.times ≡ empty) }
+        ensures spare { IfOk result (λ wheel. wheel.spare ≡ slots) }
+    {
+        let schedule = Schedule::with_slots(alloc, slots)?;
+        let keys = blank_keys(alloc, slots)?;
+        let index = HashMap::with_capacity(alloc, 2 * slots as usize)?;
+        Ok(Wheel {
+            keys,
+            index,
+            schedule,
+            spare: slots,
+        })
+    }
+
+    /// Makes room for so many new keys. The keys and their times stay.
+    ///
+    /// Where memory is refused, or the wheel would have more than some 4 milliards of keys, all is as before.
+    pub fn reserve(&mut self, n: u32) -> Result<(), AllocError>
+        ensures times { self.new.times ≡ self.old.times }
+        ensures spare { self.old.spare ≤ self.new.spare }
+        ensures room { OnOk result (n ≤ self.new.spare) }
+        ensures err { OnErr result (self.new ≡ self.old) }
+    {
+        if n <= self.spare {
+            return Ok(());
+        }
+        let used = self.keys.len() - self.spare as usize;
+        let slots = (used + n as usize).max(2 * self.keys.len());
+        if slots > MOST {
+            return Err(AllocError);
+        }
+        let alloc = *self.keys.allocator();
+        let mut larger = Wheel::with_slots(alloc, slots as u32)?;
+        for slot in 0..self.keys.len() as u32 {
+            let time = self.schedule.time(slot);
+            if time != IDLE {
+                larger.put(self.keys[slot as usize], time);
+            }
+        }
+        *self = larger;
+        Ok(())
+    }
+
+    /// Gives a key a time, in place of the one that it has.
+    pub fn put(&mut self, key: u32, at: u64)
+        requires time { at ≤ 2 ^ 48 }
+        requires room { IsTrue (contains_key self.old.times key) ⊎ (0 < self.old.spare) }
+        ensures times { self.new.times ≡ insert self.old.times key at }
+        ensures spare { self.new.spare ≡ (if contains_key self.old.times key then self.old.spare else self.old.spare - 1) }
+    {
+        match slot_of(&self.index, self.keys.as_slice(), &self.schedule, key) {
+            Some(slot) => {
+                self.schedule.stop(slot);
+                self.schedule.start(slot, at);
+            }
+            None => {
+                if let Some(slot) = self.schedule.idle_slot() {
+                    remember(&mut self.index, self.keys.as_slice(), &self.schedule, key, slot);
+                    self.keys[slot as usize] = key;
+                    self.schedule.start(slot, at);
+                    self.spare -= 1;
+                }
+            }
+        }
+    }
+
+    /// Takes a key out, where it is there.
+    pub fn cancel(&mut self, key: u32)
+        ensures times { self.new.times ≡ remove self.old.times key }
+        ensures spare { self.new.spare ≡ (if contains_key self.old.times key then self.old.spare + 1 else self.old.spare) }
+    {
+        if let Some(slot) = slot_of(&self.index, self.keys.as_slice(), &self.schedule, key) {
+            self.schedule.stop(slot);
+            self.spare += 1;
+        }
+    }
+
+    /// The least time of a key.
+    pub fn next_time(&self) -> Option<u64>
+        ensures none { IsNone result ↔ (self.now.times ≡ empty) }
+        ensures least { IfSome result (IsLeastTime self.now.times) }
+    {
+        let least = self.schedule.least();
+        if least == IDLE { None } else { Some(least) }
+    }
+
+    /// Takes out one key of the least time, where that is at most t.
+    pub fn take_one(&mut self, t: u64) -> Option<u32>
+        ensures taken { IfSome result (IsLeastDue self.old.times t) }
+        ensures times { IfSome result (λ key. self.new.times ≡ remove self.old.times key) }
+        ensures spare { IfSome result (λ key. self.new.spare ≡ self.old.spare + 1) }
+        ensures none { IfNone result (NoneDue self.old.times t) }
+        ensures unchanged { IfNone result (self.new ≡ self.old) }
+    {
+        let slot = self.schedule.least_slot()?;
+        if self.schedule.time(slot) > t {
+            return None;
+        }
+        self.schedule.stop(slot);
+        self.spare += 1;
+        Some(self.keys[slot as usize])
+    }
+
+    /// Takes out all keys with a time of at most t, and appends them to a list in rising order.
+    ///
+    /// Where memory is refused, the wheel and the list are as before.
+    pub fn take_due(&mut self, t: u64, into: &mut KeyList) -> Result<(), AllocError>
+        ensures taken { OnOk result ((keys : List ℕ) × (into.new ≡ into.old ++ keys) × TakesDue self.old self.new t keys) }
+        ensures err { OnErr result (self.new ≡ self.old) }
+        ensures err_into { OnErr result (into.new ≡ into.old) }
+    {
+        let used = self.keys.len() - self.spare as usize;
+        into.keys.reserve(used)?;
+        let start = into.keys.len();
+        while let Some(key) = self.take_one(t) {
+            let _ = into.keys.push(key);
+        }
+        into.keys.as_mut_slice()[start..].sort_unstable();
+        Ok(())
+    }
+}
+
+/// The keys of so many slots that aren't in use.
+fn blank_keys(alloc: Global, slots: u32) -> Result<Vec<u32>, AllocError>
+    ensures { IfOk result (λ v. length v.items ≡ slots) }
+{
+    vec![in alloc; 0; slots as usize]
+}
