@@ -3,3 +3,5 @@ pub mod Rings
 pub mod Kept
 pub mod Live
 pub mod Held
+pub mod Taken
+pub mod Copied

@@ -160,10 +160,10 @@ held_remove keys times keys' times' slot key d fits rests used named = same_map 
 abbrev pub rests_as : ℕ → ℕ
 rests_as time = cond (time == idle) 1 0
 
-used_counts : (time : ℕ) → time ≢ idle → rests_as time ≡ 0
+pub used_counts : (time : ℕ) → time ≢ idle → rests_as time ≡ 0
 used_counts time used = ap (λ (b : Bool). cond b 1 0) (ne_eqb time idle used)
 
-rest_counts : (time : ℕ) → time ≡ idle → rests_as time ≡ 1
+pub rest_counts : (time : ℕ) → time ≡ idle → rests_as time ≡ 1
 rest_counts time rests = ap (λ (b : Bool). cond b 1 0) (eq-eqb time idle rests)
 
 -- how many slots aren't in use

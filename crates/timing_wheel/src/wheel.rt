@@ -1,7 +1,9 @@
 //! The finite map from keys to times.
-ghost use Rattle.std.specs.Prelude.{◌≡◌, ◌↔◌, ◌⊎◌, ℕ, List, ◌+◌, ◌-◌, ◌*◌, ◌^◌, ◌<◌, ◌≤◌, ◌++◌, length, is_some, if◌then◌else◌, IsTrue, IsNone, IfSome, IfNone, IfOk, OnOk, OnErr, Some};
-ghost use Rattle.std.specs.FinMap.{empty, get, contains_key, insert, remove};
+ghost use Rattle.std.specs.Prelude.{◌≡◌, ◌↔◌, ◌⊎◌, ℕ, List, take, drop, vec_len, vec_capacity, IsPermutation, IsSorted, ◌+◌, ◌-◌, ◌*◌, ◌^◌, ◌<◌, ◌≤◌, ◌++◌, length, is_some, if◌then◌else◌, IsTrue, IsNone, IfSome, IfNone, IfOk, OnOk, OnErr, Some};
+ghost use Rattle.std.specs.Ordering.{nat_cmp};
+ghost use Rattle.std.specs.FinMap.{empty, get, contains_key, insert, remove, len};
 ghost use Rattle.timing_wheel.specs.Times.{idle};
+ghost use Rattle.timing_wheel.specs.Entries.{Collects};
 ghost use Rattle.timing_wheel.specs.Wheel.{IsLeastTime, IsLeastDue, NoneDue, TakesDue};
 
 use crate::index::{remember, slot_of};
@@ -79,29 +81,45 @@ impl Wheel {
         ensures room { OnOk result (n ≤ self.new.spare) }
         ensures err { OnErr result (self.new ≡ self.old) }
     {
-        if n <= self.spare {
-            return Ok(());
+        if n > self.spare {
+            *self = self.larger(n)?;
         }
-        let used = self.keys.len() - self.spare as usize;
-        let slots = (used + n as usize).max(2 * self.keys.len());
+        Ok(())
+    }
+
+    /// A wheel with the same keys and times that has room for so many new keys.
+    fn larger(&self, n: u32) -> Result<Wheel, AllocError>
+        ensures times { IfOk result (λ wheel. wheel.times ≡ self.now.times) }
+        ensures room { IfOk result (λ wheel. n ≤ wheel.spare) }
+    {
+        let slots = (self.used() + n as usize).max(2 * self.keys.len());
         if slots > MOST {
             return Err(AllocError);
         }
         let alloc = *self.keys.allocator();
-        let mut larger = Wheel::with_slots(alloc, slots as u32)?;
+        let mut copy = Wheel::with_slots(alloc, slots as u32)?;
         for slot in 0..self.keys.len() as u32 {
             let time = self.schedule.time(slot);
             if time != IDLE {
-                larger.put(self.keys[slot as usize], time);
+                copy.place(self.keys[slot as usize], time);
             }
         }
-        *self = larger;
-        Ok(())
+        Ok(copy)
     }
 
     /// Gives a key a time, in place of the one that it has.
     pub fn put(&mut self, key: u32, at: u64)
         requires time { at ≤ 2 ^ 48 }
+        requires room { IsTrue (contains_key self.old.times key) ⊎ (0 < self.old.spare) }
+        ensures times { self.new.times ≡ insert self.old.times key at }
+        ensures spare { self.new.spare ≡ (if contains_key self.old.times key then self.old.spare else self.old.spare - 1) }
+    {
+        self.place(key, at);
+    }
+
+    /// As `put`, for every time but that of what isn't due.
+    fn place(&mut self, key: u32, at: u64)
+        requires time { at < idle }
         requires room { IsTrue (contains_key self.old.times key) ⊎ (0 < self.old.spare) }
         ensures times { self.new.times ≡ insert self.old.times key at }
         ensures spare { self.new.spare ≡ (if contains_key self.old.times key then self.old.spare else self.old.spare - 1) }
@@ -167,15 +185,41 @@ impl Wheel {
         ensures err { OnErr result (self.new ≡ self.old) }
         ensures err_into { OnErr result (into.new ≡ into.old) }
     {
-        let used = self.keys.len() - self.spare as usize;
+        let used = self.used();
         into.keys.reserve(used)?;
         let start = into.keys.len();
-        while let Some(key) = self.take_one(t) {
-            let _ = into.keys.push(key);
-        }
-        into.keys.as_mut_slice()[start..].sort_unstable();
+        self.collect(t, &mut into.keys);
+        sort_from(&mut into.keys, start);
         Ok(())
     }
+
+    /// How many keys there are at most.
+    fn used(&self) -> usize
+        ensures most { len self.now.times ≤ result }
+        ensures small { result < 2 ^ 32 }
+    {
+        self.keys.len() - self.spare as usize
+    }
+
+    /// Takes out all keys with a time of at most t, and appends them to a vector that has room.
+    fn collect(&mut self, t: u64, keys: &mut Vec<u32>)
+        requires { vec_len keys.old + len self.old.times ≤ vec_capacity keys.old }
+        ensures { (taken : List ℕ) × (keys.new.items ≡ keys.old.items ++ taken) × Collects self.old self.new t taken × NoneDue self.new.times t }
+    {
+        while let Some(key) = self.take_one(t) {
+            keys.push_reserved(key);
+        }
+    }
+}
+
+/// Sorts what stands from a place on.
+fn sort_from(keys: &mut Vec<u32>, start: usize)
+    requires { start ≤ vec_len keys.old }
+    ensures head { take start keys.new.items ≡ take start keys.old.items }
+    ensures permutation { IsPermutation (drop start keys.old.items) (drop start keys.new.items) }
+    ensures sorted { IsSorted nat_cmp (drop start keys.new.items) }
+{
+    keys.as_mut_slice()[start..].sort_unstable();
 }
 
 /// The keys of so many slots that aren't in use.
