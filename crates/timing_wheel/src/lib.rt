@@ -10,3 +10,6 @@ mod wheel;
 
 pub use key_list::KeyList;
 pub use wheel::Wheel;
+
+#[cfg(test)]
+mod tests;
