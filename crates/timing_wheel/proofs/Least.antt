@@ -1,5 +1,5 @@
 -- The tree of least times: its root is the least leaf.
-use Rattle.std.proofs.Common.{◌≡◌, ℕ, suc, zero, ◌+◌, ◌-◌, ◌*◌, ◌/◌, ◌<◌, ◌≤◌, List, [], ◌∷◌, length, min, get_or, drop, set, refl, sym, ap, subst, ◌∙◌, ◌≢◌, arith, inl, inr, ◌⊎◌}
+use Rattle.std.proofs.Common.{◌≡◌, ℕ, suc, zero, ◌+◌, ◌-◌, ◌/◌, ◌<◌, ◌≤◌, List, [], length, min, get_or, drop, refl, sym, ap, subst, ◌∙◌, ◌≢◌, arith, inl, inr}
 use Rattle.std.proofs.lemmas.Bool.{cases_lt}
 use Rattle.std.proofs.lemmas.List.{get_or-drop, length-drop}
 use Rattle.timing_wheel.specs.Times.{idle, IsLeastOf, IsLeastTree}

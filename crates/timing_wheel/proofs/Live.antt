@@ -1,25 +1,19 @@
 -- What a wheel holds at a key, said by its slots.
-use Rattle.std.proofs.Common.{◌≡◌, ◌≢◌, ℕ, zero, suc, ◌+◌, ◌<◌, ◌≤◌, ◌==◌, Bool, true, false, cond, List, [], ◌∷◌, length, get_or, set, count_by, replicate, Option, None, Some, refl, sym, ap, subst, ◌∙◌, arith, inl, inr, ◌⊎◌}
-use Rattle.std.proofs.lemmas.Bool.{cases_lt, cases_eq, eq-eqb, ne_eqb, true_from_ne_false, false_from_ne_true}
-use Rattle.std.proofs.lemmas.List.{get_or-set_same, get_or-set_other, length-set}
+use Rattle.std.proofs.Common.{◌≡◌, ◌≢◌, ℕ, zero, suc, ◌+◌, ◌<◌, ◌≤◌, ◌==◌, Bool, true, false, cond, List, [], ◌∷◌, length, get_or, set, count_by, replicate, None, Some, refl, sym, ap, subst, ◌∙◌, arith, inl, inr, ◌⊎◌}
+use Rattle.std.proofs.lemmas.Bool.{cases_eq, eq-eqb, ne_eqb}
 use Rattle.std.proofs.lemmas.List.Sums.{sum_by-set, sum_by-cons, count_by-le-length}
-use Rattle.timing_wheel.specs.Index.{Table, IsIndexed}
+use Rattle.timing_wheel.specs.Index.{Table, IsIndexed, NoneHas}
 use Rattle.std.specs.Ordering.{nat_cmp, eq_by_cmp}
-use Rattle.std.specs.FinMap.{FinMap, find, get, insert, remove, from_entries, get-from_entries, get-insert, get-remove, same_map, nat_cmp-IsAntisymmetric, gets}
+use Rattle.std.specs.FinMap.{FinMap, find, get, insert, remove, from_entries, get-from_entries, get-insert, get-remove, same_map, nat_cmp-IsAntisymmetric}
 use Rattle.std.proofs.lemmas.Cmp.{nat_cmp_total}
 use Rattle.timing_wheel.specs.Times.{idle}
 use Rattle.timing_wheel.specs.Entries.{live_entries}
-use Rattle.timing_wheel.proofs.Rings.{stored}
 
 pub tied : (q k : ℕ) → q ≡ k → eq_by_cmp nat_cmp q k ≡ true
 tied q k e = grind arith
 
 pub untied : (q k : ℕ) → q ≢ k → eq_by_cmp nat_cmp q k ≡ false
 untied q k e = grind arith
-
--- no slot in use has this key
-abbrev pub IsAbsent : List ℕ → List ℕ → ℕ → Type 0
-IsAbsent keys times q = (slot : ℕ) → slot < length keys → get_or times slot 0 ≢ idle → get_or keys slot 0 ≢ q
 
 -- a slot in use has this key
 abbrev pub IsAt : List ℕ → List ℕ → ℕ → ℕ → Type 0
@@ -36,7 +30,7 @@ front key time q keys times used = ap (λ (b : Bool). find nat_cmp q (cond b (li
 behind : (key time q : ℕ) (keys times : List ℕ) → time ≡ idle → find nat_cmp q (live_entries (key ∷ keys) (time ∷ times)) ≡ find nat_cmp q (live_entries keys times)
 behind key time q keys times rests = ap (λ (b : Bool). find nat_cmp q (cond b (live_entries keys times) ((key, time) ∷ live_entries keys times))) (eq-eqb time idle rests)
 
-find_absent : (keys times : List ℕ) (q : ℕ) → length keys ≡ length times → IsAbsent keys times q → find nat_cmp q (live_entries keys times) ≡ None
+find_absent : (keys times : List ℕ) (q : ℕ) → length keys ≡ length times → NoneHas keys times q → find nat_cmp q (live_entries keys times) ≡ None
 find_absent [] times q size absent = refl
 find_absent (key ∷ keys) [] q size absent = refl
 find_absent (key ∷ keys) (time ∷ times) q size absent =
@@ -64,29 +58,29 @@ find_present (key ∷ keys) (time ∷ times) q (suc slot) size apart here =
 abbrev pub held : List ℕ → List ℕ → FinMap nat_cmp ℕ
 held keys times = from_entries (live_entries keys times)
 
-pub get_absent : (keys times : List ℕ) (q : ℕ) → length keys ≡ length times → IsAbsent keys times q → get (held keys times) q ≡ None
+pub get_absent : (keys times : List ℕ) (q : ℕ) → length keys ≡ length times → NoneHas keys times q → get (held keys times) q ≡ None
 get_absent keys times q size absent = get-from_entries nat_cmp_total (live_entries keys times) q ∙ find_absent keys times q size absent
 
 pub get_present : (keys times : List ℕ) (q slot : ℕ) → length keys ≡ length times → IsApart keys times → IsAt keys times q slot → get (held keys times) q ≡ Some (get_or times slot 0)
 get_present keys times q slot size apart here = get-from_entries nat_cmp_total (live_entries keys times) q ∙ find_present keys times q slot size apart here
 
 -- a key is in use at a slot, or nowhere
-pub place_of : (keys times : List ℕ) (q : ℕ) → length keys ≡ length times → ((slot : ℕ) × IsAt keys times q slot) ⊎ IsAbsent keys times q
+pub place_of : (keys times : List ℕ) (q : ℕ) → length keys ≡ length times → ((slot : ℕ) × IsAt keys times q slot) ⊎ NoneHas keys times q
 place_of [] times q size = inr (λ slot fits. absurd (omega arith))
 place_of (key ∷ keys) [] q size = absurd (omega arith)
 place_of (key ∷ keys) (time ∷ times) q size =
     elim (place_of keys times q (omega arith)) [
       | inl there ↦ inl (suc there.0, (omega (arith, there.1.0), there.1.1, there.1.2))
       | inr absent ↦ elim (cases_eq key q) [
-          | inr differs ↦ inr (λ slot fits used. later_slots keys times key time q slot absent (λ u. differs) fits used)
-          | inl same ↦ elim (cases_eq time idle) [
-              | inl rests ↦ inr (λ slot fits used. later_slots keys times key time q slot absent (λ u. absurd (u rests)) fits used)
-              | inr used ↦ inl (0, (omega arith, used, same))
-            ]
+        | inr differs ↦ inr (λ slot fits used. later_slots keys times key time q slot absent (λ u. differs) fits used)
+        | inl same ↦ elim (cases_eq time idle) [
+          | inl rests ↦ inr (λ slot fits used. later_slots keys times key time q slot absent (λ u. absurd (u rests)) fits used)
+          | inr used ↦ inl (0, (omega arith, used, same))
         ]
+      ]
     ]
   where
-    later_slots : (keys times : List ℕ) (key time q slot : ℕ) → IsAbsent keys times q → (time ≢ idle → key ≢ q) → slot < length (key ∷ keys) → get_or (time ∷ times) slot 0 ≢ idle → get_or (key ∷ keys) slot 0 ≢ q
+    later_slots : (keys times : List ℕ) (key time q slot : ℕ) → NoneHas keys times q → (time ≢ idle → key ≢ q) → slot < length (key ∷ keys) → get_or (time ∷ times) slot 0 ≢ idle → get_or (key ∷ keys) slot 0 ≢ q
     later_slots keys times key time q zero absent first fits used = first used
     later_slots keys times key time q (suc slot) absent first fits used = absent slot (omega arith) used
 
@@ -119,15 +113,15 @@ held_elsewhere keys times keys' times' slot q d new old =
           get_present keys' times' q there.0 size' d.apart' here ∙ ap (λ (t : ℕ). Some t) (d.times_same there.0 other) ∙ sym (get_present keys times q there.0 d.size d.apart there.1)
       | inr absent ↦
           get_absent keys' times' q size' (λ s fits used. elim (cases_eq s slot) [
-              | inl e ↦ rw e (new (subst (λ (j : ℕ). get_or times' j 0 ≢ idle) e used))
-              | inr other ↦ rw (d.keys_same s other) (absent s (rw (← d.keys_size) fits) (rw (← d.times_same s other) used))
-            ])
+            | inl e ↦ rw e (new (subst (λ (j : ℕ). get_or times' j 0 ≢ idle) e used))
+            | inr other ↦ rw (d.keys_same s other) (absent s (rw (← d.keys_size) fits) (rw (← d.times_same s other) used))
+          ])
           ∙ sym (get_absent keys times q d.size absent)
     ]
 
 -- a slot has a key at a time, and none else had
 pub held_put : (keys times keys' times' : List ℕ) (slot key at : ℕ) → Differ keys times keys' times' slot → slot < length keys → get_or times' slot 0 ≡ at → at ≢ idle → get_or keys' slot 0 ≡ key
-    → (get_or times slot 0 ≢ idle → get_or keys slot 0 ≡ key) → IsAbsent keys times key ⊎ (get_or times slot 0 ≢ idle) → held keys' times' ≡ insert (held keys times) key at
+    → (get_or times slot 0 ≢ idle → get_or keys slot 0 ≡ key) → NoneHas keys times key ⊎ (get_or times slot 0 ≢ idle) → held keys' times' ≡ insert (held keys times) key at
 held_put keys times keys' times' slot key at d fits time used named old any = same_map nat_cmp_total nat_cmp-IsAntisymmetric _ _ (λ q.
     elim (cases_eq q key) [
       | inl e ↦
@@ -147,9 +141,9 @@ held_remove keys times keys' times' slot key d fits rests used named = same_map 
       | inl e ↦
           let size' : length keys' ≡ length times' = d.keys_size ∙ d.size ∙ sym d.times_size in
           get_absent keys' times' q size' (λ s inside live here. elim (cases_eq s slot) [
-              | inl same ↦ live (ap (λ (j : ℕ). get_or times' j 0) same ∙ rests)
-              | inr other ↦ other (d.apart s slot q (rw (← d.keys_size) inside, rw (← d.times_same s other) live, sym (d.keys_same s other) ∙ here) (fits, used, named ∙ sym e))
-            ])
+            | inl same ↦ live (ap (λ (j : ℕ). get_or times' j 0) same ∙ rests)
+            | inr other ↦ other (d.apart s slot q (rw (← d.keys_size) inside, rw (← d.times_same s other) live, sym (d.keys_same s other) ∙ here) (fits, used, named ∙ sym e))
+          ])
           ∙ sym (get-remove nat_cmp_total _ key q ∙ ap (λ (b : Bool). cond b None (get (held keys times) q)) (tied q key e))
       | inr ne ↦
           held_elsewhere keys times keys' times' slot q d (λ u h. u rests) (λ u h. ne (sym h ∙ named))

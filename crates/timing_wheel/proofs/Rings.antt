@@ -1,5 +1,5 @@
 -- Linking a slot into a list and taking it out again keep all lists linked.
-use Rattle.std.proofs.Common.{◌≡◌, ◌≢◌, ℕ, ◌+◌, ◌-◌, ◌<◌, ◌≤◌, ◌^◌, List, [], ◌∷◌, length, get_or, set, refl, sym, ap, subst, ◌∙◌, arith, inl, inr, ◌⊎◌}
+use Rattle.std.proofs.Common.{◌≡◌, ◌≢◌, ℕ, ◌+◌, ◌<◌, ◌≤◌, ◌^◌, List, [], ◌∷◌, length, get_or, set, refl, sym, ap, subst, ◌∙◌, arith, inl, inr, ◌⊎◌}
 use Rattle.std.proofs.lemmas.Bool.{cases_lt, cases_eq}
 use Rattle.std.proofs.lemmas.List.{get_or-set_same, get_or-set_other, length-set, get_or_past}
 use Rattle.timing_wheel.specs.Links.{Among, LeadsThrough, IsRing, IsLinked}
@@ -52,14 +52,14 @@ stored_twice xs i v j w k fits_i fits_j =
     elim (stored (set xs i v) j w k (rw length-set fits_j)) [
       | inl last ↦ at_second last.0 last.1
       | inr before ↦ elim (stored xs i v k fits_i) [
-          | inl first ↦ at_first before.0 first.0 (before.1 ∙ first.1)
-          | inr other ↦ elsewhere before.0 other.0 (before.1 ∙ other.1)
-        ]
+        | inl first ↦ at_first before.0 first.0 (before.1 ∙ first.1)
+        | inr other ↦ elsewhere before.0 other.0 (before.1 ∙ other.1)
+      ]
     ]
 
 -- a slot that stands in no list goes to the front of one
 module _ (next previous places : List ℕ) (lists slot list : ℕ) (linked : IsLinked next previous places lists)
-         (in_slots : slot < length places) (in_lists : list < lists) (was_loose : get_or places slot 0 ≡ lists) where
+    (in_slots : slot < length places) (in_lists : list < lists) (was_loose : get_or places slot 0 ≡ lists) where
   alone : get_or next (lists + slot) 0 ≡ lists + slot
   alone = linked.loose slot in_slots was_loose
 
@@ -83,74 +83,74 @@ module _ (next previous places : List ℕ) (lists slot list : ℕ) (linked : IsL
 
   link_within : (k : ℕ) → k < length next → get_or (set (set next list (lists + slot)) (lists + slot) (get_or next list 0)) k 0 < length next
   link_within k fits = elim (read_next k) [
-      | at_second here is ↦ rw is after_within
-      | at_first other here is ↦ rw is (omega (arith, linked.next_size))
-      | elsewhere other away is ↦ rw is (linked.within k fits)
-    ]
+    | at_second here is ↦ rw is after_within
+    | at_first other here is ↦ rw is (omega (arith, linked.next_size))
+    | elsewhere other away is ↦ rw is (linked.within k fits)
+  ]
 
   link_before : (k : ℕ) → k < length next → get_or (set (set previous (lists + slot) list) (get_or next list 0) (lists + slot)) k 0 < length next
   link_before k fits = elim (read_previous k) [
-      | at_second here is ↦ rw is (omega (arith, linked.next_size))
-      | at_first other here is ↦ rw is (omega (arith, linked.next_size))
-      | elsewhere other away is ↦ rw is (linked.before k fits)
-    ]
+    | at_second here is ↦ rw is (omega (arith, linked.next_size))
+    | at_first other here is ↦ rw is (omega (arith, linked.next_size))
+    | elsewhere other away is ↦ rw is (linked.before k fits)
+  ]
 
   link_back : (k : ℕ) → k < length next → get_or (set (set previous (lists + slot) list) (get_or next list 0) (lists + slot)) (get_or (set (set next list (lists + slot)) (lists + slot) (get_or next list 0)) k 0) 0 ≡ k
   link_back k fits = elim (read_next k) [
-      | at_second here is ↦ rw is (elim (read_previous (get_or next list 0)) [
-          | at_second same reads ↦ reads ∙ sym here
-          | at_first other same reads ↦ absurd (other refl)
-          | elsewhere other away reads ↦ absurd (other refl)
-        ])
-      | at_first other here is ↦ rw is (elim (read_previous (lists + slot)) [
-          | at_second same reads ↦ absurd (after_apart (sym same))
-          | at_first differs same reads ↦ reads ∙ sym here
-          | elsewhere differs away reads ↦ absurd (away refl)
-        ])
-      | elsewhere other away is ↦ rw is (elim (read_previous (get_or next k 0)) [
-          | at_second same reads ↦ absurd (away (sym (linked.back k fits) ∙ ap (λ (j : ℕ). get_or previous j 0) same ∙ after_back))
-          | at_first differs same reads ↦ absurd (other (sym (linked.back k fits) ∙ ap (λ (j : ℕ). get_or previous j 0) same ∙ alone_back))
-          | elsewhere differs apart reads ↦ reads ∙ linked.back k fits
-        ])
-    ]
+    | at_second here is ↦ rw is (elim (read_previous (get_or next list 0)) [
+      | at_second same reads ↦ reads ∙ sym here
+      | at_first other same reads ↦ absurd (other refl)
+      | elsewhere other away reads ↦ absurd (other refl)
+    ])
+    | at_first other here is ↦ rw is (elim (read_previous (lists + slot)) [
+      | at_second same reads ↦ absurd (after_apart (sym same))
+      | at_first differs same reads ↦ reads ∙ sym here
+      | elsewhere differs away reads ↦ absurd (away refl)
+    ])
+    | elsewhere other away is ↦ rw is (elim (read_previous (get_or next k 0)) [
+      | at_second same reads ↦ absurd (away (sym (linked.back k fits) ∙ ap (λ (j : ℕ). get_or previous j 0) same ∙ after_back))
+      | at_first differs same reads ↦ absurd (other (sym (linked.back k fits) ∙ ap (λ (j : ℕ). get_or previous j 0) same ∙ alone_back))
+      | elsewhere differs apart reads ↦ reads ∙ linked.back k fits
+    ])
+  ]
 
   link_forth : (k : ℕ) → k < length next → get_or (set (set next list (lists + slot)) (lists + slot) (get_or next list 0)) (get_or (set (set previous (lists + slot) list) (get_or next list 0) (lists + slot)) k 0) 0 ≡ k
   link_forth k fits = elim (read_previous k) [
-      | at_second here is ↦ rw is (elim (read_next (lists + slot)) [
-          | at_second same reads ↦ reads ∙ sym here
-          | at_first other same reads ↦ absurd (other refl)
-          | elsewhere other away reads ↦ absurd (other refl)
-        ])
-      | at_first other here is ↦ rw is (elim (read_next list) [
-          | at_second same reads ↦ absurd (omega arith)
-          | at_first differs same reads ↦ reads ∙ sym here
-          | elsewhere differs away reads ↦ absurd (away refl)
-        ])
-      | elsewhere other away is ↦ rw is (elim (read_next (get_or previous k 0)) [
-          | at_second same reads ↦ absurd (away (sym (linked.forth k fits) ∙ ap (λ (j : ℕ). get_or next j 0) same ∙ alone))
-          | at_first differs same reads ↦ absurd (other (sym (linked.forth k fits) ∙ ap (λ (j : ℕ). get_or next j 0) same))
-          | elsewhere differs apart reads ↦ reads ∙ linked.forth k fits
-        ])
-    ]
+    | at_second here is ↦ rw is (elim (read_next (lists + slot)) [
+      | at_second same reads ↦ reads ∙ sym here
+      | at_first other same reads ↦ absurd (other refl)
+      | elsewhere other away reads ↦ absurd (other refl)
+    ])
+    | at_first other here is ↦ rw is (elim (read_next list) [
+      | at_second same reads ↦ absurd (omega arith)
+      | at_first differs same reads ↦ reads ∙ sym here
+      | elsewhere differs away reads ↦ absurd (away refl)
+    ])
+    | elsewhere other away is ↦ rw is (elim (read_next (get_or previous k 0)) [
+      | at_second same reads ↦ absurd (away (sym (linked.forth k fits) ∙ ap (λ (j : ℕ). get_or next j 0) same ∙ alone))
+      | at_first differs same reads ↦ absurd (other (sym (linked.forth k fits) ∙ ap (λ (j : ℕ). get_or next j 0) same))
+      | elsewhere differs apart reads ↦ reads ∙ linked.forth k fits
+    ])
+  ]
 
   link_loose : (k : ℕ) → k < length (set places slot list) → get_or (set places slot list) k 0 ≡ lists → get_or (set (set next list (lists + slot)) (lists + slot) (get_or next list 0)) (lists + k) 0 ≡ lists + k
   link_loose k fits place = elim (stored places slot list k in_slots) [
-      | inl here ↦ absurd (omega (arith, here.1, place))
-      | inr away ↦
-          let old : get_or places k 0 ≡ lists = sym away.1 ∙ place in
-          let inside : k < length places = omega (arith, length-set places slot list) in
-          elim (read_next (lists + k)) [
-            | at_second same reads ↦ absurd (away.0 (omega arith))
-            | at_first differs same reads ↦ absurd (omega arith)
-            | elsewhere differs apart reads ↦ reads ∙ linked.loose k inside old
-          ]
-    ]
+    | inl here ↦ absurd (omega (arith, here.1, place))
+    | inr away ↦
+        let old : get_or places k 0 ≡ lists = sym away.1 ∙ place in
+        let inside : k < length places = omega (arith, length-set places slot list) in
+        elim (read_next (lists + k)) [
+          | at_second same reads ↦ absurd (away.0 (omega arith))
+          | at_first differs same reads ↦ absurd (omega arith)
+          | elsewhere differs apart reads ↦ reads ∙ linked.loose k inside old
+        ]
+  ]
 
   link_placed : (k : ℕ) → k < length (set places slot list) → get_or (set places slot list) k 0 ≤ lists
   link_placed k fits = elim (stored places slot list k in_slots) [
-      | inl here ↦ omega (arith, here.1)
-      | inr away ↦ let inside : k < length places = omega (arith, length-set places slot list) in rw (away.1) (linked.placed k inside)
-    ]
+    | inl here ↦ omega (arith, here.1)
+    | inr away ↦ let inside : k < length places = omega (arith, length-set places slot list) in rw (away.1) (linked.placed k inside)
+  ]
 
   -- a slot of a list isn't the one that stands in none
   place_apart : (other k : ℕ) → other < lists → get_or places k 0 ≡ other → k ≢ slot
@@ -171,46 +171,52 @@ module _ (next previous places : List ℕ) (lists slot list : ℕ) (linked : IsL
       let old = linked.rings other low in
       let size : length (set places slot list) ≡ length places = length-set places slot list in
       elim (cases_eq other list) [
-        | inl same ↦ ((lists + slot) ∷ old.0, record {
+        | inl same ↦ (
+          (lists + slot) ∷ old.0,
+          record {
             leads =
                 let head : get_or (set (set next list (lists + slot)) (lists + slot) (get_or next list 0)) other 0 ≡ lists + slot = elim (read_next other) [
-                    | at_second here reads ↦ absurd (omega arith)
-                    | at_first differs here reads ↦ reads
-                    | elsewhere differs apart reads ↦ absurd (apart same)
-                  ] in
+                  | at_second here reads ↦ absurd (omega arith)
+                  | at_first differs here reads ↦ reads
+                  | elsewhere differs apart reads ↦ absurd (apart same)
+                ] in
                 let on : get_or (set (set next list (lists + slot)) (lists + slot) (get_or next list 0)) (lists + slot) 0 ≡ get_or next other 0 = elim (read_next (lists + slot)) [
-                    | at_second here reads ↦ reads ∙ ap (λ (j : ℕ). get_or next j 0) (sym same)
-                    | at_first differs here reads ↦ absurd (differs refl)
-                    | elsewhere differs apart reads ↦ absurd (differs refl)
-                  ] in
+                  | at_second here reads ↦ reads ∙ ap (λ (j : ℕ). get_or next j 0) (sym same)
+                  | at_first differs here reads ↦ absurd (differs refl)
+                  | elsewhere differs apart reads ↦ absurd (differs refl)
+                ] in
                 (head, leads_same next _ other other (lists + slot) old.0 on (same_links other old.0 low old.1) old.1.leads);
             all = λ k fits place. elim (stored places slot list k in_slots) [
-                | inl here ↦ inl (ap (λ (j : ℕ). lists + j) here.0)
-                | inr away ↦ inr (old.1.all k (omega (arith, size)) (sym away.1 ∙ place))
-              ];
+              | inl here ↦ inl (ap (λ (j : ℕ). lists + j) here.0)
+              | inr away ↦ inr (old.1.all k (omega (arith, size)) (sym away.1 ∙ place))
+            ];
             only = λ k among. elim among [
-                | inl here ↦ (slot, omega (arith, size), here, get_or-set_same places slot list 0 in_slots ∙ sym same)
-                | inr rest ↦ let found = old.1.only k rest in
-                    let apart : found.0 ≢ slot = place_apart other found.0 low found.3 in
-                    (found.0, omega (arith, size, found.1), found.2, get_or-set_other places slot found.0 list 0 apart ∙ found.3)
-              ];
-          })
-        | inr differs ↦ (old.0, record {
+              | inl here ↦ (slot, omega (arith, size), here, get_or-set_same places slot list 0 in_slots ∙ sym same)
+              | inr rest ↦ let found = old.1.only k rest in
+                  let apart : found.0 ≢ slot = place_apart other found.0 low found.3 in
+                  (found.0, omega (arith, size, found.1), found.2, get_or-set_other places slot found.0 list 0 apart ∙ found.3)
+            ];
+          },
+        )
+        | inr differs ↦ (
+          old.0,
+          record {
             leads =
                 let on : get_or (set (set next list (lists + slot)) (lists + slot) (get_or next list 0)) other 0 ≡ get_or next other 0 = elim (read_next other) [
-                    | at_second here reads ↦ absurd (omega arith)
-                    | at_first apart here reads ↦ absurd (differs here)
-                    | elsewhere apart away reads ↦ reads
-                  ] in
+                  | at_second here reads ↦ absurd (omega arith)
+                  | at_first apart here reads ↦ absurd (differs here)
+                  | elsewhere apart away reads ↦ reads
+                ] in
                 leads_same next _ other other other old.0 on (same_links other old.0 low old.1) old.1.leads;
             all = λ k fits place. elim (stored places slot list k in_slots) [
-                | inl here ↦ absurd (differs (sym place ∙ here.1))
-                | inr away ↦ old.1.all k (omega (arith, size)) (sym away.1 ∙ place)
-              ];
+              | inl here ↦ absurd (differs (sym place ∙ here.1))
+              | inr away ↦ old.1.all k (omega (arith, size)) (sym away.1 ∙ place)
+            ];
             only = λ k among. let found = old.1.only k among in
                 let apart : found.0 ≢ slot = place_apart other found.0 low found.3 in
                 (found.0, omega (arith, size, found.1), found.2, get_or-set_other places slot found.0 list 0 apart ∙ found.3);
-          })
+          },
+        )
       ]
 
   pub IsLinked-link : IsLinked (set (set next list (lists + slot)) (lists + slot) (get_or next list 0)) (set (set previous (lists + slot) list) (get_or next list 0) (lists + slot)) (set places slot list) lists
@@ -302,13 +308,13 @@ leads_past next after node before end from (x ∷ y ∷ ys) skips far away leads
 came_from : (next : List ℕ) (node end from : ℕ) (nodes : List ℕ) → from ≢ node → LeadsThrough next end from nodes → Among node nodes → (k : ℕ) × (k ≢ node) × (get_or next k 0 ≡ node)
 came_from next node end from [] away leads among = absurd among
 came_from next node end from (x ∷ xs) away leads among = elim (cases_eq x node) [
-    | inl is ↦ (from, away, leads.0 ∙ is)
-    | inr differs ↦ elim among [ inl e ↦ absurd (differs (sym e)) | inr more ↦ came_from next node end x xs differs leads.1 more ]
-  ]
+  | inl is ↦ (from, away, leads.0 ∙ is)
+  | inr differs ↦ elim among [ inl e ↦ absurd (differs (sym e)) | inr more ↦ came_from next node end x xs differs leads.1 more ]
+]
 
 -- a slot goes out of its list
 module _ (next previous places : List ℕ) (lists slot : ℕ) (linked : IsLinked next previous places lists)
-         (in_slots : slot < length places) (in_list : get_or places slot 0 < lists) where
+    (in_slots : slot < length places) (in_list : get_or places slot 0 < lists) where
   node_within : lists + slot < length next
   node_within = omega (arith, linked.next_size)
 
@@ -326,9 +332,9 @@ module _ (next previous places : List ℕ) (lists slot : ℕ) (linked : IsLinked
 
   out_unique : (k : ℕ) → get_or next k 0 ≡ lists + slot → k ≡ get_or previous (lists + slot) 0
   out_unique k e = elim (cases_lt k (length next)) [
-      | inl fits ↦ sym (linked.back k fits) ∙ ap (λ (j : ℕ). get_or previous j 0) e
-      | inr past ↦ absurd (omega (arith, get_or_past next k 0 past))
-    ]
+    | inl fits ↦ sym (linked.back k fits) ∙ ap (λ (j : ℕ). get_or previous j 0) e
+    | inr past ↦ absurd (omega (arith, get_or_past next k 0 past))
+  ]
 
   out_before_apart : get_or previous (lists + slot) 0 ≢ lists + slot
   out_before_apart e =
@@ -348,55 +354,55 @@ module _ (next previous places : List ℕ) (lists slot : ℕ) (linked : IsLinked
 
   unlink_within : (k : ℕ) → k < length next → get_or (set (set next (get_or previous (lists + slot) 0) (get_or next (lists + slot) 0)) (lists + slot) (lists + slot)) k 0 < length next
   unlink_within k fits = elim (out_next k) [
-      | at_second here is ↦ rw is node_within
-      | at_first other here is ↦ rw is out_after_within
-      | elsewhere other away is ↦ rw is (linked.within k fits)
-    ]
+    | at_second here is ↦ rw is node_within
+    | at_first other here is ↦ rw is out_after_within
+    | elsewhere other away is ↦ rw is (linked.within k fits)
+  ]
 
   unlink_before : (k : ℕ) → k < length next → get_or (set (set previous (get_or next (lists + slot) 0) (get_or previous (lists + slot) 0)) (lists + slot) (lists + slot)) k 0 < length next
   unlink_before k fits = elim (out_previous k) [
-      | at_second here is ↦ rw is node_within
-      | at_first other here is ↦ rw is out_before_within
-      | elsewhere other away is ↦ rw is (linked.before k fits)
-    ]
+    | at_second here is ↦ rw is node_within
+    | at_first other here is ↦ rw is out_before_within
+    | elsewhere other away is ↦ rw is (linked.before k fits)
+  ]
 
   unlink_back : (k : ℕ) → k < length next → get_or (set (set previous (get_or next (lists + slot) 0) (get_or previous (lists + slot) 0)) (lists + slot) (lists + slot)) (get_or (set (set next (get_or previous (lists + slot) 0) (get_or next (lists + slot) 0)) (lists + slot) (lists + slot)) k 0) 0 ≡ k
   unlink_back k fits = elim (out_next k) [
-      | at_second here is ↦ rw is (elim (out_previous (lists + slot)) [
-          | at_second same reads ↦ reads ∙ sym here
-          | at_first other same reads ↦ absurd (other refl)
-          | elsewhere other away reads ↦ absurd (other refl)
-        ])
-      | at_first other here is ↦ rw is (elim (out_previous (get_or next (lists + slot) 0)) [
-          | at_second same reads ↦ absurd (out_after_apart same)
-          | at_first differs same reads ↦ reads ∙ sym here
-          | elsewhere differs away reads ↦ absurd (away refl)
-        ])
-      | elsewhere other away is ↦ rw is (elim (out_previous (get_or next k 0)) [
-          | at_second same reads ↦ absurd (away (out_unique k same))
-          | at_first differs same reads ↦ absurd (other (sym (linked.back k fits) ∙ ap (λ (j : ℕ). get_or previous j 0) same ∙ out_after_back))
-          | elsewhere differs apart reads ↦ reads ∙ linked.back k fits
-        ])
-    ]
+    | at_second here is ↦ rw is (elim (out_previous (lists + slot)) [
+      | at_second same reads ↦ reads ∙ sym here
+      | at_first other same reads ↦ absurd (other refl)
+      | elsewhere other away reads ↦ absurd (other refl)
+    ])
+    | at_first other here is ↦ rw is (elim (out_previous (get_or next (lists + slot) 0)) [
+      | at_second same reads ↦ absurd (out_after_apart same)
+      | at_first differs same reads ↦ reads ∙ sym here
+      | elsewhere differs away reads ↦ absurd (away refl)
+    ])
+    | elsewhere other away is ↦ rw is (elim (out_previous (get_or next k 0)) [
+      | at_second same reads ↦ absurd (away (out_unique k same))
+      | at_first differs same reads ↦ absurd (other (sym (linked.back k fits) ∙ ap (λ (j : ℕ). get_or previous j 0) same ∙ out_after_back))
+      | elsewhere differs apart reads ↦ reads ∙ linked.back k fits
+    ])
+  ]
 
   unlink_forth : (k : ℕ) → k < length next → get_or (set (set next (get_or previous (lists + slot) 0) (get_or next (lists + slot) 0)) (lists + slot) (lists + slot)) (get_or (set (set previous (get_or next (lists + slot) 0) (get_or previous (lists + slot) 0)) (lists + slot) (lists + slot)) k 0) 0 ≡ k
   unlink_forth k fits = elim (out_previous k) [
-      | at_second here is ↦ rw is (elim (out_next (lists + slot)) [
-          | at_second same reads ↦ reads ∙ sym here
-          | at_first other same reads ↦ absurd (other refl)
-          | elsewhere other away reads ↦ absurd (other refl)
-        ])
-      | at_first other here is ↦ rw is (elim (out_next (get_or previous (lists + slot) 0)) [
-          | at_second same reads ↦ absurd (out_before_apart same)
-          | at_first differs same reads ↦ reads ∙ sym here
-          | elsewhere differs away reads ↦ absurd (away refl)
-        ])
-      | elsewhere other away is ↦ rw is (elim (out_next (get_or previous k 0)) [
-          | at_second same reads ↦ absurd (away (sym (linked.forth k fits) ∙ ap (λ (j : ℕ). get_or next j 0) same))
-          | at_first differs same reads ↦ absurd (other (sym (linked.forth k fits) ∙ ap (λ (j : ℕ). get_or next j 0) same ∙ out_joined))
-          | elsewhere differs apart reads ↦ reads ∙ linked.forth k fits
-        ])
-    ]
+    | at_second here is ↦ rw is (elim (out_next (lists + slot)) [
+      | at_second same reads ↦ reads ∙ sym here
+      | at_first other same reads ↦ absurd (other refl)
+      | elsewhere other away reads ↦ absurd (other refl)
+    ])
+    | at_first other here is ↦ rw is (elim (out_next (get_or previous (lists + slot) 0)) [
+      | at_second same reads ↦ absurd (out_before_apart same)
+      | at_first differs same reads ↦ reads ∙ sym here
+      | elsewhere differs away reads ↦ absurd (away refl)
+    ])
+    | elsewhere other away is ↦ rw is (elim (out_next (get_or previous k 0)) [
+      | at_second same reads ↦ absurd (away (sym (linked.forth k fits) ∙ ap (λ (j : ℕ). get_or next j 0) same))
+      | at_first differs same reads ↦ absurd (other (sym (linked.forth k fits) ∙ ap (λ (j : ℕ). get_or next j 0) same ∙ out_joined))
+      | elsewhere differs apart reads ↦ reads ∙ linked.forth k fits
+    ])
+  ]
 
   unlink_loose : (k : ℕ) → k < length (set places slot lists) → get_or (set places slot lists) k 0 ≡ lists → get_or (set (set next (get_or previous (lists + slot) 0) (get_or next (lists + slot) 0)) (lists + slot) (lists + slot)) (lists + k) 0 ≡ lists + k
   unlink_loose k fits place =
@@ -417,23 +423,23 @@ module _ (next previous places : List ℕ) (lists slot : ℕ) (linked : IsLinked
 
   unlink_placed : (k : ℕ) → k < length (set places slot lists) → get_or (set places slot lists) k 0 ≤ lists
   unlink_placed k fits = elim (stored places slot lists k in_slots) [
-      | inl here ↦ omega (arith, here.1)
-      | inr away ↦ let inside : k < length places = omega (arith, length-set places slot lists) in rw (away.1) (linked.placed k inside)
-    ]
+    | inl here ↦ omega (arith, here.1)
+    | inr away ↦ let inside : k < length places = omega (arith, length-set places slot lists) in rw (away.1) (linked.placed k inside)
+  ]
 
   unlink_skips : Skips next (set (set next (get_or previous (lists + slot) 0) (get_or next (lists + slot) 0)) (lists + slot) (lists + slot)) (lists + slot) (get_or previous (lists + slot) 0)
   unlink_skips = record {
     joined = out_joined;
     skip = elim (out_next (get_or previous (lists + slot) 0)) [
-        | at_second same reads ↦ absurd (out_before_apart same)
-        | at_first differs same reads ↦ reads
-        | elsewhere differs away reads ↦ absurd (away refl)
-      ];
+      | at_second same reads ↦ absurd (out_before_apart same)
+      | at_first differs same reads ↦ reads
+      | elsewhere differs away reads ↦ absurd (away refl)
+    ];
     same = λ k other differs. elim (out_next k) [
-        | at_second same reads ↦ absurd (differs same)
-        | at_first apart same reads ↦ absurd (other same)
-        | elsewhere apart away reads ↦ reads
-      ];
+      | at_second same reads ↦ absurd (differs same)
+      | at_first apart same reads ↦ absurd (other same)
+      | elsewhere apart away reads ↦ reads
+    ];
     unique = out_unique;
   }
 
@@ -442,18 +448,20 @@ module _ (next previous places : List ℕ) (lists slot : ℕ) (linked : IsLinked
       let old = linked.rings list low in
       let size : length (set places slot lists) ≡ length places = length-set places slot lists in
       let far : list ≢ lists + slot = omega arith in
-      let past = leads_past next _ (lists + slot) (get_or previous (lists + slot) 0) list list old.0 unlink_skips far far old.1.leads in
-      (past.rest, record {
-        leads = past.leads;
-        all = λ k fits place. elim (stored places slot lists k in_slots) [
+      let past = leads_past next _ (lists + slot) (get_or previous (lists + slot) 0) list list old.0 unlink_skips far far old.1.leads in (
+        past.rest,
+        record {
+          leads = past.leads;
+          all = λ k fits place. elim (stored places slot lists k in_slots) [
             | inl here ↦ absurd (omega (arith, here.1, place))
             | inr away ↦ past.kept (lists + k) (old.1.all k (omega (arith, size)) (sym away.1 ∙ place)) (λ e. away.0 (omega arith))
           ];
-        only = λ k among.
-            let found = old.1.only k (past.old k among) in
-            let apart : found.0 ≢ slot = λ e. past.other k among (found.2 ∙ ap (λ (j : ℕ). lists + j) e) in
-            (found.0, omega (arith, size, found.1), found.2, get_or-set_other places slot found.0 lists 0 apart ∙ found.3);
-      })
+          only = λ k among.
+              let found = old.1.only k (past.old k among) in
+              let apart : found.0 ≢ slot = λ e. past.other k among (found.2 ∙ ap (λ (j : ℕ). lists + j) e) in
+              (found.0, omega (arith, size, found.1), found.2, get_or-set_other places slot found.0 lists 0 apart ∙ found.3);
+        },
+      )
 
   pub IsLinked-unlink : IsLinked (set (set next (get_or previous (lists + slot) 0) (get_or next (lists + slot) 0)) (lists + slot) (lists + slot)) (set (set previous (get_or next (lists + slot) 0) (get_or previous (lists + slot) 0)) (lists + slot) (lists + slot)) (set places slot lists) lists
   IsLinked-unlink =
@@ -486,9 +494,12 @@ IsLinked-alone next previous places lists next_size previous_size size forward b
   forth = λ k fits. rw (backward k (omega arith)) (forward k fits);
   loose = λ k fits place. forward (lists + k) (omega arith);
   placed = λ k fits. omega (arith, loose k fits);
-  rings = λ list low. ([], record {
+  rings = λ list low. (
+    [],
+    record {
       leads = forward list (omega arith);
       all = λ k fits place. absurd (omega (arith, loose k fits, place));
       only = λ k among. absurd among;
-    });
+    },
+  );
 }

@@ -1,8 +1,8 @@
 -- Keys that are due go out one by one.
-use Rattle.std.proofs.Common.{◌≡◌, ◌≢◌, ℕ, zero, suc, ◌+◌, ◌-◌, is_some, ◌<◌, ◌≤◌, ◌++◌, ◌==◌, Bool, true, false, cond, List, [], ◌∷◌, take, drop, length, get_or, Option, None, Some, nat_eq, nat_le, nat_cmp, Contains, refl, sym, ap, subst, ◌∙◌, arith, inl, inr, ◌⊎◌}
+use Rattle.std.proofs.Common.{◌≡◌, ◌≢◌, ℕ, zero, suc, ◌+◌, ◌-◌, is_some, ◌<◌, ◌≤◌, ◌++◌, ◌==◌, Bool, true, false, cond, List, [], ◌∷◌, take, drop, length, get_or, Option, None, Some, nat_eq, nat_cmp, Contains, refl, sym, ap, subst, ◌∙◌, arith, inl, inr}
 use Rattle.std.specs.List.{IsDistinct}
-use Rattle.std.specs.List.Sorted.{IsPermutation, IsSorted, IsNonDecreasing, IsStrictlyIncreasing}
-use Rattle.std.proofs.lemmas.Bool.{cases_eq, cases_lt, false_from_ne_true, eqb-true, le-leb, lt-leb, eq-eqb, ne_eqb}
+use Rattle.std.specs.List.Sorted.{IsPermutation, IsSorted}
+use Rattle.std.proofs.lemmas.Bool.{cases_eq, false_from_ne_true, eqb-true, le-leb, lt-leb, eq-eqb, ne_eqb}
 use Rattle.std.proofs.lemmas.List.{length-append, take-append-drop}
 use Rattle.std.proofs.Math.Seq.{take-append_seam, drop-append_seam}
 use Rattle.std.proofs.lemmas.List.Sums.{sum_by-cons}
@@ -11,9 +11,9 @@ use Rattle.std.proofs.lemmas.List.Sorted.{length_permutation, Contains-permutati
 use Rattle.std.proofs.lemmas.Map.Keys.{IsDistinct-push, IsDistinct-IsPermutation, IsStrictlyIncreasing-from_distinct}
 use Rattle.std.proofs.lemmas.Map.Views.{Contains-from_any}
 use Rattle.std.proofs.lemmas.Cmp.{nat_cmp_total, nat_eq_equiv}
-use Rattle.std.specs.FinMap.{FinMap, get, contains_key, remove, len, insert, from_entries, get-remove, len-remove, len-insert, len-empty, empty_of_len, get-empty}
+use Rattle.std.specs.FinMap.{FinMap, get, contains_key, remove, len, from_entries, get-remove, len-remove, len-insert, len-empty, empty_of_len, get-empty}
 use Rattle.timing_wheel.specs.Times.{idle}
-use Rattle.timing_wheel.specs.Wheel.{Pending, IsDue, IsLeastDue, NoneDue, later, TakesDue}
+use Rattle.timing_wheel.specs.Wheel.{Pending, IsLeastDue, NoneDue, later, TakesDue}
 use Rattle.timing_wheel.specs.Entries.{Collects, live_entries}
 use Rattle.timing_wheel.proofs.Live.{held, tied, untied, rest_count, rests_as, rest_counts, used_counts}
 
@@ -54,23 +54,23 @@ collects_more old new next t key taken so_far due times spare =
     record {
       distinct = IsDistinct-push nat_eq_equiv taken key so_far.distinct (false_from_ne_true _ (λ e. absent (Contains-from_any eqb-true key taken e)));
       gone = λ q among. elim (Contains-append_cases taken (key ∷ []) q among) [
-          | inl before ↦
-              let apart : q ≢ key = λ e. absent (subst (Contains taken) e before) in
-              ((so_far.gone q before).0, ap (λ (m : FinMap nat_cmp ℕ). get m q) times ∙ get_other new.times key q apart ∙ (so_far.gone q before).1)
-          | inr now ↦ elim (so_far.kept key) [
-              | inl among ↦ absurd (absent among)
-              | inr same ↦
-                  let is = only key q now in
-                  ((due.0, ap (get old.times) is ∙ sym same ∙ due.1, due.2), ap (λ (m : FinMap nat_cmp ℕ). get m q) times ∙ ap (get (remove new.times key)) is ∙ get_gone new.times key)
-            ]
-        ];
+        | inl before ↦
+            let apart : q ≢ key = λ e. absent (subst (Contains taken) e before) in
+            ((so_far.gone q before).0, ap (λ (m : FinMap nat_cmp ℕ). get m q) times ∙ get_other new.times key q apart ∙ (so_far.gone q before).1)
+        | inr now ↦ elim (so_far.kept key) [
+          | inl among ↦ absurd (absent among)
+          | inr same ↦
+              let is = only key q now in
+              ((due.0, ap (get old.times) is ∙ sym same ∙ due.1, due.2), ap (λ (m : FinMap nat_cmp ℕ). get m q) times ∙ ap (get (remove new.times key)) is ∙ get_gone new.times key)
+        ]
+      ];
       kept = λ q. elim (cases_eq q key) [
-          | inl same ↦ inl (subst (Contains (taken ++ key ∷ [])) (sym same) (Contains-append_right taken (key ∷ []) key (here key)))
-          | inr ne ↦ elim (so_far.kept q) [
-              | inl among ↦ inl (Contains-append_left taken (key ∷ []) q among)
-              | inr same ↦ inr (ap (λ (m : FinMap nat_cmp ℕ). get m q) times ∙ get_other new.times key q ne ∙ same)
-            ]
-        ];
+        | inl same ↦ inl (subst (Contains (taken ++ key ∷ [])) (sym same) (Contains-append_right taken (key ∷ []) key (here key)))
+        | inr ne ↦ elim (so_far.kept q) [
+          | inl among ↦ inl (Contains-append_left taken (key ∷ []) q among)
+          | inr same ↦ inr (ap (λ (m : FinMap nat_cmp ℕ). get m q) times ∙ get_other new.times key q ne ∙ same)
+        ]
+      ];
       counted = omega (arith, spare, so_far.counted, length-append taken (key ∷ []));
     }
 
@@ -84,16 +84,16 @@ pub takes_due : (old new : Pending) (t : ℕ) (taken keys : List ℕ) → Collec
 takes_due old new t taken keys all none moved sorted = record {
   rising = IsStrictlyIncreasing-from_distinct keys (IsNonDecreasingBy-from_sort (λ (k : ℕ). k) keys sorted) (IsDistinct-IsPermutation nat_eq (nat_eq_equiv).symm taken keys moved all.distinct);
   due = λ key. (
-      (λ among. (all.gone key (Contains-permutation keys taken key (IsPermutation-sym taken keys moved) among)).0),
-      (λ is. elim (all.kept key) [
-        | inl among ↦ Contains-permutation taken keys key moved among
-        | inr same ↦ absurd (let h : t < is.0 = none key is.0 (same ∙ is.1) in omega (arith, is.2))
-      ])
-    );
+    (λ among. (all.gone key (Contains-permutation keys taken key (IsPermutation-sym taken keys moved) among)).0),
+    (λ is. elim (all.kept key) [
+      | inl among ↦ Contains-permutation taken keys key moved among
+      | inr same ↦ absurd (let h : t < is.0 = none key is.0 (same ∙ is.1) in omega (arith, is.2))
+    ]),
+  );
   left = λ key. elim (all.kept key) [
-      | inl among ↦ let is = all.gone key among in is.1 ∙ sym (ap (later t) is.0.1 ∙ ap (λ (b : Bool). cond b None (Some is.0.0)) (le-leb is.0.0 t is.0.2))
-      | inr same ↦ same ∙ sym (stays t (get old.times key) (λ at is. none key at (same ∙ is)))
-    ];
+    | inl among ↦ let is = all.gone key among in is.1 ∙ sym (ap (later t) is.0.1 ∙ ap (λ (b : Bool). cond b None (Some is.0.0)) (le-leb is.0.0 t is.0.2))
+    | inr same ↦ same ∙ sym (stays t (get old.times key) (λ at is. none key at (same ∙ is)))
+  ];
   spare = all.counted ∙ ap (λ (n : ℕ). old.spare + n) (sym (length_permutation taken keys moved));
 }
 
@@ -118,9 +118,9 @@ len_taken times key at is =
 
 live_cons : (key time : ℕ) (keys times : List ℕ) → length (live_entries (key ∷ keys) (time ∷ times)) + rests_as time ≡ suc (length (live_entries keys times))
 live_cons key time keys times = elim (cases_eq time idle) [
-    | inl rests ↦ omega (arith, rest_counts time rests, ap (λ (b : Bool). length (cond b (live_entries keys times) ((key, time) ∷ live_entries keys times))) (eq-eqb time idle rests))
-    | inr used ↦ omega (arith, used_counts time used, ap (λ (b : Bool). length (cond b (live_entries keys times) ((key, time) ∷ live_entries keys times))) (ne_eqb time idle used))
-  ]
+  | inl rests ↦ omega (arith, rest_counts time rests, ap (λ (b : Bool). length (cond b (live_entries keys times) ((key, time) ∷ live_entries keys times))) (eq-eqb time idle rests))
+  | inr used ↦ omega (arith, used_counts time used, ap (λ (b : Bool). length (cond b (live_entries keys times) ((key, time) ∷ live_entries keys times))) (ne_eqb time idle used))
+]
 
 -- each slot is in use or isn't
 length_live : (keys times : List ℕ) → length keys ≡ length times → length (live_entries keys times) + rest_count times ≡ length times

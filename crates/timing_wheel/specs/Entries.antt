@@ -1,5 +1,5 @@
 -- Definitions that only code and proofs use: the entries of the slots that are in use.
-use Rattle.std.specs.Prelude.{◌≡◌, ◌≢◌, ℕ, ◌+◌, ◌<◌, ◌≤◌, ◌==◌, ◌^◌, List, [], ◌∷◌, length, ◌⊎◌, Option, None, Some, nat_eq, Contains, slice_index, count_by, if◌then◌else◌}
+use Rattle.std.specs.Prelude.{◌≡◌, ℕ, ◌+◌, ◌<◌, ◌≤◌, ◌==◌, ◌^◌, List, [], ◌∷◌, ◌++◌, length, ◌⊎◌, None, nat_eq, Contains, count_by, if◌then◌else◌}
 use Rattle.std.specs.FinMap.{from_entries, get}
 use Rattle.std.specs.List.{IsDistinct}
 use Rattle.std.specs.HashMap.{hash_map_len, spare}
@@ -31,3 +31,7 @@ pub record Collects (old new : Pending) (t : ℕ) (taken : List ℕ) : Type 0 wh
   pub gone : (key : ℕ) → Contains taken key → IsDue old.times t key × (get new.times key ≡ None)
   pub kept : (key : ℕ) → Contains taken key ⊎ (get new.times key ≡ get old.times key)
   pub counted : new.spare ≡ old.spare + length taken
+
+-- some keys that were due went out and stand at the end of a list
+abbrev pub Appends : Pending → Pending → ℕ → List ℕ → List ℕ → Type 0
+Appends old new t before after = (taken : List ℕ) × (after ≡ before ++ taken) × Collects old new t taken

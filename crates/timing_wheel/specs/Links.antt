@@ -1,10 +1,22 @@
 -- Definitions that only code and proofs use: lists of slots that are linked both ways.
-use Rattle.std.specs.Prelude.{◌≡◌, ℕ, ◌+◌, ◌-◌, ◌^◌, ◌<◌, ◌≤◌, ◌⊎◌, List, [], ◌∷◌, length, slice_index}
+use Rattle.std.specs.Prelude.{◌≡◌, ◌≢◌, ℕ, replicate, slice_set, ◌+◌, ◌^◌, ◌<◌, ◌≤◌, ◌⊎◌, List, [], ◌∷◌, length, slice_index}
 
 -- how many lists there are, and in which each slot stands: the number of lists stands for none
 pub record Placement : Type 0 where
   pub lists : ℕ
   pub places : List ℕ
+
+-- so many lists, and so many slots that stand in none
+abbrev pub all_loose : ℕ → ℕ → Placement
+all_loose lists slots = record { lists = lists; places = replicate slots lists }
+
+-- a slot stands in another list, or in none
+abbrev pub moved : Placement → ℕ → ℕ → Placement
+moved chains slot list = record { lists = chains.lists; places = slice_set chains.places slot list }
+
+-- no slot stands in the list
+abbrev pub NoneStandsIn : List ℕ → ℕ → Type 0
+NoneStandsIn places list = (slot : ℕ) → slot < length places → slice_index places slot ≢ list
 
 -- a node stands among others
 abbrev pub Among : ℕ → List ℕ → Type 0

@@ -1,5 +1,5 @@
 -- Definitions that only code and proofs use: what a schedule keeps of each slot.
-use Rattle.std.specs.Prelude.{◌≡◌, ◌≢◌, ℕ, suc, ◌+◌, ◌^◌, ◌<◌, ◌≤◌, ◌⊎◌, List, length, slice_index}
+use Rattle.std.specs.Prelude.{◌≡◌, ◌≢◌, ℕ, suc, ◌+◌, ◌^◌, ◌<◌, List, length, slice_index}
 use Rattle.timing_wheel.specs.Times.{idle}
 use Rattle.timing_wheel.specs.Links.{Placement}
 

@@ -1,7 +1,7 @@
 -- What a wheel holds: times by key, and how many new keys fit without more memory.
-use Rattle.std.specs.Prelude.{◌≡◌, ℕ, ◌+◌, ◌<◌, ◌≤◌, ◌↔◌, List, length, Option, None, Some, Contains, nat_le, if◌then◌else◌, refl}
+use Rattle.std.specs.Prelude.{◌≡◌, ℕ, ◌+◌, ◌-◌, ◌++◌, ◌⊎◌, IsTrue, ◌<◌, ◌≤◌, ◌↔◌, List, length, Option, None, Some, Contains, nat_le, if◌then◌else◌, refl}
 use Rattle.std.specs.Ordering.{nat_cmp}
-use Rattle.std.specs.FinMap.{FinMap, code, get}
+use Rattle.std.specs.FinMap.{FinMap, code, get, contains_key}
 use Rattle.std.specs.Coded.{Coded, code_by, coded×, coded_ℕ}
 use Rattle.std.specs.List.Sorted.{IsStrictlyIncreasing}
 
@@ -17,6 +17,18 @@ pub record Pending : Type 0 where
 -- it is stored as the pair of its fields
 abbrev pub pending_code : Coded Pending
 pending_code = code_by (Times × ℕ) (coded× (code coded_ℕ coded_ℕ) coded_ℕ) (λ p. (p.times, p.spare)) (λ p. record { times = p.0; spare = p.1 }) (λ _. refl)
+
+-- the key is there, or a new key fits
+abbrev pub HasRoomFor : Pending → ℕ → Type 0
+HasRoomFor wheel key = IsTrue (contains_key wheel.times key) ⊎ (0 < wheel.spare)
+
+-- how many new keys fit after a key got a time: a new key takes the place of one
+abbrev pub spare_after_put : Pending → ℕ → ℕ
+spare_after_put wheel key = if contains_key wheel.times key then wheel.spare else wheel.spare - 1
+
+-- how many new keys fit after a key went out: one more where it was there
+abbrev pub spare_after_cancel : Pending → ℕ → ℕ
+spare_after_cancel wheel key = if contains_key wheel.times key then wheel.spare + 1 else wheel.spare
 
 -- a key has this time, and no key has a lesser one
 pub record IsLeastTime (times : Times) (least : ℕ) : Type 0 where
@@ -46,3 +58,7 @@ pub record TakesDue (old new : Pending) (t : ℕ) (keys : List ℕ) : Type 0 whe
   pub due : (key : ℕ) → Contains keys key ↔ IsDue old.times t key
   pub left : (key : ℕ) → get new.times key ≡ later t (get old.times key)
   pub spare : new.spare ≡ old.spare + length keys
+
+-- the keys that are due at t go out of a wheel and to the end of a list
+abbrev pub AppendsDue : Pending → Pending → ℕ → List ℕ → List ℕ → Type 0
+AppendsDue old new t before after = (keys : List ℕ) × (after ≡ before ++ keys) × TakesDue old new t keys

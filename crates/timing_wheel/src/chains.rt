@@ -1,12 +1,12 @@
 //! Slots linked into lists: each slot stands in at most one list, and goes in and out in one step.
-ghost use Rattle.std.specs.Prelude.{◌≡◌, ◌≢◌, ℕ, ◌+◌, ◌<◌, ◌^◌, [], length, replicate, slice_set, slice_index, EachIndex, IfOk, IfSome, IfNone};
-ghost use Rattle.timing_wheel.specs.Links.{Placement};
+ghost use Rattle.std.specs.Prelude.{◌≡◌, ◌+◌, ◌<◌, ◌^◌, [], length, replicate, slice_index, EachIndex, IfOk, IfSome, IfNone};
+ghost use Rattle.timing_wheel.specs.Links.{all_loose, moved, NoneStandsIn};
 
 use std::alloc::{AllocError, Global};
 use std::marker::Model;
 
-/// Lists of slots, linked both ways in a ring through a head. Contracts see in which list each slot stands,
-/// and the number of lists for a slot that stands in none.
+/// Lists of slots, linked both ways in a ring through a head. Contracts see in which list each slot
+/// stands, and the number of lists for a slot that stands in none.
 #[derive(Drop)]
 pub(crate) struct Chains {
     next: Vec<u32>,
@@ -41,7 +41,7 @@ impl Chains {
     /// So many lists without slots, and so many slots in no list.
     pub(crate) fn with_lists(alloc: Global, lists: u32, slots: u32) -> Result<Chains, AllocError>
         requires { lists + slots < 2 ^ 32 }
-        ensures { IfOk result (λ chains. chains ≡ record { lists = lists; places = replicate slots lists }) }
+        ensures { IfOk result (λ chains. chains ≡ all_loose lists slots) }
     {
         let next = numbers(alloc, lists + slots)?;
         let previous = numbers(alloc, lists + slots)?;
@@ -74,7 +74,7 @@ impl Chains {
         requires { list < self.now.lists }
         ensures within { IfSome result (λ slot. slot < length self.now.places) }
         ensures here { IfSome result (λ slot. slice_index self.now.places slot ≡ list) }
-        ensures none { IfNone result ((slot : ℕ) → slot < length self.now.places → slice_index self.now.places slot ≢ list) }
+        ensures none { IfNone result (NoneStandsIn self.now.places list) }
     {
         let node = self.next[list as usize];
         if node == list {
@@ -89,7 +89,7 @@ impl Chains {
         requires slot { slot < length self.old.places }
         requires list { list < self.old.lists }
         requires loose { slice_index self.old.places slot ≡ self.old.lists }
-        ensures { self.new ≡ record self.old { places = slice_set self.old.places slot list } }
+        ensures { self.new ≡ moved self.old slot list }
     {
         let node = self.lists + slot;
         let after = self.next[list as usize];
@@ -104,7 +104,7 @@ impl Chains {
     pub(crate) fn unlink(&mut self, slot: u32)
         requires slot { slot < length self.old.places }
         requires linked { slice_index self.old.places slot < self.old.lists }
-        ensures { self.new ≡ record self.old { places = slice_set self.old.places slot self.old.lists } }
+        ensures { self.new ≡ moved self.old slot self.old.lists }
     {
         let node = self.lists + slot;
         let before = self.previous[node as usize];

@@ -1,8 +1,8 @@
-//! Slots found by key. A key that is no longer in use stays until the table is full, and then goes with all others of its kind.
-ghost use Rattle.std.specs.Prelude.{◌≡◌, ◌≢◌, ℕ, ◌+◌, ◌<◌, ◌≤◌, ◌^◌, length, slice_index, nat_eq, IfSome, IfNone, None, Some, if◌then◌else◌};
-ghost use Rattle.std.specs.HashMap.{get, hash_map_len, spare};
+//! Slots found by key. A key that is no longer in use stays until the table is full.
+ghost use Rattle.std.specs.Prelude.{◌≡◌, ◌+◌, ◌<◌, ◌≤◌, ◌^◌, length, slice_index, nat_eq, IfSome, IfNone, Some};
+ghost use Rattle.std.specs.HashMap.{get, spare};
 ghost use Rattle.timing_wheel.specs.Times.{idle};
-ghost use Rattle.timing_wheel.specs.Index.{IsIndexed};
+ghost use Rattle.timing_wheel.specs.Index.{IsIndexed, NoneHas, Stores, room_of};
 
 use crate::least_tree::IDLE;
 use crate::schedule::Schedule;
@@ -20,7 +20,7 @@ pub(crate) fn slot_of(
     ensures within { IfSome result (λ slot. slot < length keys.now) }
     ensures key { IfSome result (λ slot. slice_index keys.now slot ≡ key) }
     ensures used { IfSome result (λ slot. slice_index schedule.now slot < idle) }
-    ensures none { IfNone result ((slot : ℕ) → slot < length keys.now → slice_index schedule.now slot ≢ idle → slice_index keys.now slot ≢ key) }
+    ensures none { IfNone result (NoneHas keys.now schedule.now key) }
 {
     let slot = *index.get(&key)?;
     if (slot as usize) < keys.len() && keys[slot as usize] == key && schedule.time(slot) != IDLE {
@@ -42,11 +42,11 @@ pub(crate) fn remember(
     requires small { length keys.now < 2 ^ 32 }
     requires slot { slot < length keys.now }
     requires indexed { IsIndexed index.old keys.now schedule.now }
-    requires fresh { (other : ℕ) → other < length keys.now → slice_index schedule.now other ≢ idle → slice_index keys.now other ≢ key }
-    requires room { length keys.now + length keys.now ≤ hash_map_len index.old + spare index.old }
+    requires fresh { NoneHas keys.now schedule.now key }
+    requires room { length keys.now + length keys.now ≤ room_of index.old }
     ensures indexed { IsIndexed index.new keys.now schedule.now }
     ensures here { get nat_eq index.new key ≡ Some slot }
-    ensures room { length keys.now + length keys.now ≤ hash_map_len index.new + spare index.new }
+    ensures room { length keys.now + length keys.now ≤ room_of index.new }
 {
     if index.len() == index.capacity() {
         rebuild(index, keys, schedule);
@@ -60,9 +60,9 @@ fn rebuild(index: &mut HashMap<u32, u32>, keys: &[u32], schedule: &Schedule)
     requires small { length keys.now < 2 ^ 32 }
     requires some { 0 < length keys.now }
     requires indexed { IsIndexed index.old keys.now schedule.now }
-    requires room { length keys.now + length keys.now ≤ hash_map_len index.old + spare index.old }
+    requires room { length keys.now + length keys.now ≤ room_of index.old }
     ensures indexed { IsIndexed index.new keys.now schedule.now }
-    ensures room { length keys.now + length keys.now ≤ hash_map_len index.new + spare index.new }
+    ensures room { length keys.now + length keys.now ≤ room_of index.new }
     ensures spare { 0 < spare index.new }
 {
     index.clear();
@@ -76,8 +76,8 @@ fn rebuild(index: &mut HashMap<u32, u32>, keys: &[u32], schedule: &Schedule)
 /// Makes a slot to be found by a key.
 fn store(index: &mut HashMap<u32, u32>, key: u32, slot: u32)
     requires { 0 < spare index.old }
-    ensures gets { (q : ℕ) → get nat_eq index.new q ≡ (if nat_eq key q then Some slot else get nat_eq index.old q) }
-    ensures room { hash_map_len index.old + spare index.old ≤ hash_map_len index.new + spare index.new }
+    ensures stored { Stores index.old index.new key slot }
+    ensures room { room_of index.old ≤ room_of index.new }
     ensures spare { spare index.old ≤ spare index.new + 1 }
 {
     if let Some(found) = index.get_mut(&key) {

@@ -82,7 +82,11 @@ impl LeastTree {
     pub(crate) fn least(&self) -> u64
         ensures { IsLeastOf self.now result }
     {
-        if self.leaves == 0 { IDLE } else { self.cells[1] }
+        if self.leaves == 0 {
+            IDLE
+        } else {
+            self.cells[1]
+        }
     }
 
     /// A leaf of the least time.

@@ -1,6 +1,6 @@
-//! A time for each slot, with the least at hand: near times in buckets of one tick each, others in a tree.
-ghost use Rattle.std.specs.Prelude.{◌≡◌, ◌≢◌, ℕ, ◌+◌, ◌<◌, ◌^◌, ◌⊎◌, [], length, replicate, slice_set, slice_index, IfOk, IfSome, IfNone};
-ghost use Rattle.timing_wheel.specs.Times.{idle, IsLeastOf, AllIdle};
+//! A time for each slot, with the least at hand: near times in buckets, others in a tree.
+ghost use Rattle.std.specs.Prelude.{◌≡◌, ◌+◌, ◌<◌, ◌^◌, [], length, replicate, slice_set, slice_index, IfOk, IfSome, IfNone};
+ghost use Rattle.timing_wheel.specs.Times.{idle, IsLeastOf, AllIdle, NoneIdle, IsFreeFor};
 
 use crate::chains::Chains;
 use crate::least_tree::{IDLE, LeastTree};
@@ -12,8 +12,9 @@ const BUCKETS: u32 = 512;
 
 /// A time for each slot, `IDLE` for one that isn't in use. Contracts see the list of them.
 ///
-/// A slot in use is linked into the bucket of its time where that bucket is free or has the same time,
-/// and is a leaf of the far times otherwise. Slots that aren't in use are linked into a list of their own.
+/// A slot in use is linked into the bucket of its time where that bucket is free or has the same
+/// time, and is a leaf of the far times otherwise. Slots that aren't in use are linked into a list
+/// of their own.
 #[derive(Drop)]
 pub(crate) struct Schedule {
     chains: Chains,
@@ -105,7 +106,7 @@ impl Schedule {
     pub(crate) fn idle_slot(&self) -> Option<u32>
         ensures within { IfSome result (λ slot. slot < length self.now) }
         ensures idle { IfSome result (λ slot. slice_index self.now slot ≡ idle) }
-        ensures none { IfNone result ((slot : ℕ) → slot < length self.now → slice_index self.now slot ≢ idle) }
+        ensures none { IfNone result (NoneIdle self.now) }
     {
         if self.times.is_empty() {
             return None;
@@ -159,7 +160,7 @@ fn near_bucket(ticks: &LeastTree, least: u64, time: u64) -> Option<u32>
     requires some { 0 < length ticks.now }
     requires small { length ticks.now < 2 ^ 32 }
     ensures within { IfSome result (λ bucket. bucket < length ticks.now) }
-    ensures free { IfSome result (λ bucket. (slice_index ticks.now bucket ≡ idle) ⊎ (slice_index ticks.now bucket ≡ time)) }
+    ensures free { IfSome result (λ bucket. IsFreeFor (slice_index ticks.now bucket) time) }
 {
     let buckets = ticks.len() as u64;
     if time >= least.saturating_add(buckets) {

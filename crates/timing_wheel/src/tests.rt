@@ -127,7 +127,11 @@ fn time_of(key: u32) -> u64
     ensures { result ≤ 2 ^ 44 }
 {
     let number = mix(u64::from(key));
-    if number % 4 == 0 { number / 4 % 300 } else { number / 4 % 0x100_0000_0000 }
+    if number % 4 == 0 {
+        number / 4 % 300
+    } else {
+        number / 4 % 0x100_0000_0000
+    }
 }
 
 #[test]

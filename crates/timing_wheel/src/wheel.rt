@@ -1,10 +1,11 @@
 //! The finite map from keys to times.
-ghost use Rattle.std.specs.Prelude.{◌≡◌, ◌↔◌, ◌⊎◌, ℕ, List, take, drop, vec_len, vec_capacity, IsPermutation, IsSorted, ◌+◌, ◌-◌, ◌*◌, ◌^◌, ◌<◌, ◌≤◌, ◌++◌, length, is_some, if◌then◌else◌, IsTrue, IsNone, IfSome, IfNone, IfOk, OnOk, OnErr, Some};
+ghost use Rattle.std.specs.Prelude.{◌≡◌, ◌↔◌, ◌+◌, ◌^◌, ◌<◌, ◌≤◌, length, take, drop, IsNone, IfSome, IfNone, IfOk, OnOk, OnErr};
+ghost use Rattle.std.specs.Prelude.{vec_len, vec_capacity, IsPermutation, IsSorted};
 ghost use Rattle.std.specs.Ordering.{nat_cmp};
-ghost use Rattle.std.specs.FinMap.{empty, get, contains_key, insert, remove, len};
+ghost use Rattle.std.specs.FinMap.{empty, insert, remove, len};
 ghost use Rattle.timing_wheel.specs.Times.{idle};
-ghost use Rattle.timing_wheel.specs.Entries.{Collects};
-ghost use Rattle.timing_wheel.specs.Wheel.{IsLeastTime, IsLeastDue, NoneDue, TakesDue};
+ghost use Rattle.timing_wheel.specs.Entries.{Appends};
+ghost use Rattle.timing_wheel.specs.Wheel.{IsLeastTime, IsLeastDue, HasRoomFor, NoneDue, AppendsDue, spare_after_put, spare_after_cancel};
 
 use crate::index::{remember, slot_of};
 use crate::key_list::KeyList;
@@ -14,12 +15,13 @@ use std::alloc::{AllocError, Global};
 use std::collections::HashMap;
 use std::marker::Model;
 
-/// The most slots that a wheel may have.
+/// The most keys that a wheel may have room for.
 const MOST: usize = 4_000_000_000;
 
 /// Times by key, with the least time at hand. A time is a number of ticks, at most 2^48.
 ///
-/// Contracts see the finite map from keys to times, and `spare`: how many new keys fit without more memory.
+/// Contracts see the finite map from keys to times, and `spare`: how many new keys fit without more
+/// memory.
 #[derive(Drop)]
 pub struct Wheel {
     keys: Vec<u32>,
@@ -74,7 +76,8 @@ impl Wheel {
 
     /// Makes room for so many new keys. The keys and their times stay.
     ///
-    /// Where memory is refused, or the wheel would have more than some 4 milliards of keys, all is as before.
+    /// Where memory is refused, or the wheel would have room for more than 4,000,000,000 keys, all is
+    /// as before.
     pub fn reserve(&mut self, n: u32) -> Result<(), AllocError>
         ensures times { self.new.times ≡ self.old.times }
         ensures spare { self.old.spare ≤ self.new.spare }
@@ -110,9 +113,9 @@ impl Wheel {
     /// Gives a key a time, in place of the one that it has.
     pub fn put(&mut self, key: u32, at: u64)
         requires time { at ≤ 2 ^ 48 }
-        requires room { IsTrue (contains_key self.old.times key) ⊎ (0 < self.old.spare) }
+        requires room { HasRoomFor self.old key }
         ensures times { self.new.times ≡ insert self.old.times key at }
-        ensures spare { self.new.spare ≡ (if contains_key self.old.times key then self.old.spare else self.old.spare - 1) }
+        ensures spare { self.new.spare ≡ spare_after_put self.old key }
     {
         self.place(key, at);
     }
@@ -120,18 +123,24 @@ impl Wheel {
     /// As `put`, for every time but that of what isn't due.
     fn place(&mut self, key: u32, at: u64)
         requires time { at < idle }
-        requires room { IsTrue (contains_key self.old.times key) ⊎ (0 < self.old.spare) }
+        requires room { HasRoomFor self.old key }
         ensures times { self.new.times ≡ insert self.old.times key at }
-        ensures spare { self.new.spare ≡ (if contains_key self.old.times key then self.old.spare else self.old.spare - 1) }
+        ensures spare { self.new.spare ≡ spare_after_put self.old key }
     {
         match slot_of(&self.index, self.keys.as_slice(), &self.schedule, key) {
-            Some(slot) => {
-                self.schedule.stop(slot);
-                self.schedule.start(slot, at);
+            Some(known) => {
+                self.schedule.stop(known);
+                self.schedule.start(known, at);
             }
             None => {
                 if let Some(slot) = self.schedule.idle_slot() {
-                    remember(&mut self.index, self.keys.as_slice(), &self.schedule, key, slot);
+                    remember(
+                        &mut self.index,
+                        self.keys.as_slice(),
+                        &self.schedule,
+                        key,
+                        slot,
+                    );
                     self.keys[slot as usize] = key;
                     self.schedule.start(slot, at);
                     self.spare -= 1;
@@ -143,7 +152,7 @@ impl Wheel {
     /// Takes a key out, where it is there.
     pub fn cancel(&mut self, key: u32)
         ensures times { self.new.times ≡ remove self.old.times key }
-        ensures spare { self.new.spare ≡ (if contains_key self.old.times key then self.old.spare + 1 else self.old.spare) }
+        ensures spare { self.new.spare ≡ spare_after_cancel self.old key }
     {
         if let Some(slot) = slot_of(&self.index, self.keys.as_slice(), &self.schedule, key) {
             self.schedule.stop(slot);
@@ -181,7 +190,7 @@ impl Wheel {
     ///
     /// Where memory is refused, the wheel and the list are as before.
     pub fn take_due(&mut self, t: u64, into: &mut KeyList) -> Result<(), AllocError>
-        ensures taken { OnOk result ((keys : List ℕ) × (into.new ≡ into.old ++ keys) × TakesDue self.old self.new t keys) }
+        ensures taken { OnOk result (AppendsDue self.old self.new t into.old into.new) }
         ensures err { OnErr result (self.new ≡ self.old) }
         ensures err_into { OnErr result (into.new ≡ into.old) }
     {
@@ -204,7 +213,8 @@ impl Wheel {
     /// Takes out all keys with a time of at most t, and appends them to a vector that has room.
     fn collect(&mut self, t: u64, keys: &mut Vec<u32>)
         requires { vec_len keys.old + len self.old.times ≤ vec_capacity keys.old }
-        ensures { (taken : List ℕ) × (keys.new.items ≡ keys.old.items ++ taken) × Collects self.old self.new t taken × NoneDue self.new.times t }
+        ensures taken { Appends self.old self.new t keys.old.items keys.new.items }
+        ensures none { NoneDue self.new.times t }
     {
         while let Some(key) = self.take_one(t) {
             keys.push_reserved(key);

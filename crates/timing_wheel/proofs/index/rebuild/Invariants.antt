@@ -1,7 +1,6 @@
 use Rattle.std.proofs.Common.{◌≡◌, ◌≢◌, ℕ, ◌+◌, ◌<◌, ◌≤◌, length, slice_index, nat_eq, Some}
 use Rattle.std.specs.HashMap.{get, hash_map_len, spare}
 use Rattle.timing_wheel.specs.Times.{idle}
-use Rattle.timing_wheel.specs.Index.{IsIndexed}
 use Rattle.timing_wheel.proofs.index.rebuild.Given as goal
 
 abbrev pub invariant-loop-slot : goal.invariant-loop-slot

@@ -1,6 +1,5 @@
-use Rattle.std.proofs.Common.{◌≡◌, ◌<◌, ◌+◌, get_or, set, length, subst, sym, ap, ◌∙◌, arith, ℕ, List, replicate}
+use Rattle.std.proofs.Common.{◌≡◌, get_or, length, ap, ◌∙◌, arith, ℕ, List}
 use Rattle.std.proofs.lemmas.List.{length-replicate, get_or-replicate}
-use Rattle.timing_wheel.specs.Links.{Placement, IsLinked}
 use Rattle.timing_wheel.proofs.Rings.{IsLinked-alone}
 use Rattle.timing_wheel.proofs.chains.Chains.with_lists.Goals as goal
 

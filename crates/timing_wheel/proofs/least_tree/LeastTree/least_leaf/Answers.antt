@@ -1,4 +1,4 @@
-use Rattle.std.proofs.Common.{◌≡◌, ◌<◌, ◌+◌, ◌-◌, get_or, subst, sym, ap, ◌∙◌, arith, List, ℕ}
+use Rattle.std.proofs.Common.{◌≡◌, ◌<◌, ◌+◌, ◌-◌, get_or, subst, ap, ◌∙◌, arith, List, ℕ}
 use Rattle.timing_wheel.specs.Times.{IsLeastOf}
 use Rattle.timing_wheel.proofs.Least.{leaf_is_least}
 use Rattle.timing_wheel.proofs.least_tree.LeastTree.least_leaf.Goals as goal

@@ -1,4 +1,4 @@
-use Rattle.std.proofs.Common.{◌-◌, ◌≡◌, ℕ, ◌+◌, ◌<◌, ◌≤◌, get_or}
+use Rattle.std.proofs.Common.{◌-◌, ◌≡◌, ◌+◌, ◌<◌, get_or}
 use Rattle.timing_wheel.proofs.least_tree.LeastTree.least_leaf.Given as goal
 
 abbrev pub invariant-loop-cell : goal.invariant-loop-cell

@@ -1,4 +1,4 @@
-use Rattle.std.proofs.Common.{◌-◌, ◌≡◌, ℕ, ◌+◌, ◌<◌, ◌≤◌, drop, set, length}
+use Rattle.std.proofs.Common.{◌≡◌, ◌+◌, ◌<◌, drop, set}
 use Rattle.timing_wheel.proofs.Least.{IsLeastTreeBut}
 use Rattle.timing_wheel.proofs.least_tree.LeastTree.set.Given as goal
 

@@ -1,7 +1,5 @@
-use Rattle.std.proofs.Common.{◌≡◌, ◌<◌, ◌⊎◌, get_or, set, length, subst, sym, ap, ◌∙◌, arith, List, ℕ}
+use Rattle.std.proofs.Common.{◌≡◌, ◌<◌, get_or, length, subst, sym, List, ℕ}
 use Rattle.timing_wheel.specs.Times.{idle}
-use Rattle.timing_wheel.specs.Links.{Placement}
-use Rattle.timing_wheel.specs.Slots.{IsSchedule}
 use Rattle.timing_wheel.proofs.Kept.{IsSchedule-start_near, IsSchedule-start_far}
 use Rattle.timing_wheel.proofs.schedule.Schedule.start.Goals as goal
 use Rattle.timing_wheel.proofs.schedule.Schedule.start.Goals.{in-Some, in-None}

@@ -1,6 +1,4 @@
-use Rattle.std.proofs.Common.{◌≡◌, ◌<◌, ◌≤◌, get_or, length, subst, sym, arith, List, ℕ, replicate}
-use Rattle.timing_wheel.specs.Times.{idle}
-use Rattle.timing_wheel.specs.Slots.{IsSchedule}
+use Rattle.std.proofs.Common.{arith}
 use Rattle.timing_wheel.proofs.Kept.{IsSchedule-resting}
 use Rattle.timing_wheel.proofs.schedule.Schedule.with_slots.Goals as goal
 

@@ -1,4 +1,4 @@
-use Rattle.std.proofs.Common.{◌≡◌, ℕ, ◌+◌, ◌<◌, ◌≤◌, length, slice_index}
+use Rattle.std.proofs.Common.{◌≡◌, ℕ, ◌<◌, ◌≤◌, length, slice_index}
 use Rattle.timing_wheel.proofs.schedule.Schedule.with_slots.Given as goal
 
 abbrev pub invariant-loop-slot : goal.invariant-loop-slot

@@ -1,9 +1,10 @@
-use Rattle.std.proofs.Common.{◌≡◌, ◌≢◌, ◌<◌, ◌≤◌, ◌+◌, ◌-◌, ℕ, Bool, List, length, get_or, set, cond, if◌then◌else◌, refl, sym, ap, subst, ◌∙◌, arith}
+use Rattle.std.proofs.Common.{◌≡◌, ◌<◌, ◌+◌, ℕ, List, length, get_or, set, if◌then◌else◌, refl, subst, arith}
 use Rattle.std.proofs.lemmas.List.{length-set}
-use Rattle.std.specs.FinMap.{contains_key, insert, remove}
+use Rattle.std.specs.FinMap.{contains_key, remove}
+use Rattle.timing_wheel.specs.Index.{NoneHas}
 use Rattle.timing_wheel.specs.Times.{idle}
 use Rattle.timing_wheel.specs.Wheel.{Pending}
-use Rattle.timing_wheel.proofs.Live.{IsAbsent, held, count_stop, count_start, count_rest}
+use Rattle.timing_wheel.proofs.Live.{held, count_stop, count_rest}
 use Rattle.timing_wheel.proofs.Held.{contains_present, contains_absent, held_cancel, held_unchanged}
 use Rattle.timing_wheel.proofs.wheel.Wheel.cancel.Goals as goal
 
@@ -33,12 +34,12 @@ returns-in-Some-clause-spare c =
 pub returns-in_default-clause-times : goal.returns-in_default-clause-times
 returns-in_default-clause-times c =
     let s = c.self.inside in
-    let absent : IsAbsent s.keys.items s.schedule c.args.key = subst (λ (keys : List ℕ). IsAbsent keys s.schedule c.args.key) c.as_slice.ensures.value c.in_default.ensures.none in
+    let absent : NoneHas s.keys.items s.schedule c.args.key = subst (λ (keys : List ℕ). NoneHas keys s.schedule c.args.key) c.as_slice.ensures.value c.in_default.ensures.none in
     subst (λ (p : Pending). p.times ≡ remove p.times c.args.key) c.self.view_is (held_unchanged s.keys.items s.schedule s.index s.spare c.args.key c.self.invariant absent)
 
 pub returns-in_default-clause-spare : goal.returns-in_default-clause-spare
 returns-in_default-clause-spare c =
     let s = c.self.inside in
-    let absent : IsAbsent s.keys.items s.schedule c.args.key = subst (λ (keys : List ℕ). IsAbsent keys s.schedule c.args.key) c.as_slice.ensures.value c.in_default.ensures.none in
+    let absent : NoneHas s.keys.items s.schedule c.args.key = subst (λ (keys : List ℕ). NoneHas keys s.schedule c.args.key) c.as_slice.ensures.value c.in_default.ensures.none in
     subst (λ (p : Pending). p.spare ≡ (if contains_key p.times c.args.key then p.spare + 1 else p.spare)) c.self.view_is
     (rw (contains_absent s.keys.items s.schedule s.index s.spare c.args.key c.self.invariant absent) refl)

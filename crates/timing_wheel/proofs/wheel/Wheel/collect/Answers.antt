@@ -1,4 +1,4 @@
-use Rattle.std.proofs.Common.{◌≡◌, ◌≤◌, ◌<◌, ◌+◌, ℕ, ◌++◌, ◌∷◌, [], List, append-nil, append_assoc, vec_len, vec_capacity, refl, sym, ap, subst, ◌∙◌, arith}
+use Rattle.std.proofs.Common.{◌≡◌, ◌<◌, ◌+◌, ℕ, ◌++◌, ◌∷◌, [], List, append-nil, append_assoc, sym, ap, ◌∙◌, arith}
 use Rattle.std.specs.FinMap.{len}
 use Rattle.timing_wheel.proofs.Taken.{collects_none, collects_more, len_taken}
 use Rattle.timing_wheel.proofs.wheel.Wheel.collect.Goals as goal
@@ -23,8 +23,11 @@ loop-key-preserved c =
     let so_far = c.loop-key.invariant.1 in
     let due = c.in-Some.ensures.taken in
     let fewer = len_taken c.loop-key.self.times c.in-Some.key due.0 due.1 in
-    let left : len c.take_one.new.self.times + 1 ≡ len c.loop-key.self.times = rw c.in-Some.ensures.times (fewer.1) in
-    (omega (arith, c.loop-key.invariant.0, left, c.push_reserved.ensures.len, c.push_reserved.ensures.capacity),
-      (so_far.0 ++ c.in-Some.key ∷ [],
+    let left : len c.take_one.new.self.times + 1 ≡ len c.loop-key.self.times = rw c.in-Some.ensures.times (fewer.1) in (
+      omega (arith, c.loop-key.invariant.0, left, c.push_reserved.ensures.len, c.push_reserved.ensures.capacity),
+      (
+        so_far.0 ++ c.in-Some.key ∷ [],
         c.push_reserved.ensures.items ∙ ap (λ (xs : List ℕ). xs ++ c.in-Some.key ∷ []) so_far.1 ∙ append_assoc c.args.keys.now.items so_far.0 (c.in-Some.key ∷ []),
-        collects_more c.args.self.now c.loop-key.self c.take_one.new.self c.args.t c.in-Some.key so_far.0 so_far.2 due c.in-Some.ensures.times c.in-Some.ensures.spare))
+        collects_more c.args.self.now c.loop-key.self c.take_one.new.self c.args.t c.in-Some.key so_far.0 so_far.2 due c.in-Some.ensures.times c.in-Some.ensures.spare,
+      ),
+    )

@@ -1,11 +1,11 @@
-use Rattle.std.proofs.Common.{◌≡◌, ◌≢◌, ◌<◌, ◌≤◌, ◌+◌, ℕ, get_or, length, refl, sym, ap, subst, ◌∙◌, arith}
+use Rattle.std.proofs.Common.{◌≡◌, ◌≢◌, ◌<◌, ◌≤◌, ℕ, get_or, length, sym, ap, ◌∙◌, arith}
 use Rattle.std.specs.Ordering.{nat_cmp}
-use Rattle.std.specs.FinMap.{FinMap, empty, len, len-empty, insert}
+use Rattle.std.specs.FinMap.{FinMap, len, len-empty, insert}
 use Rattle.std.proofs.lemmas.List.{get_or_default}
 use Rattle.timing_wheel.specs.Times.{idle}
 use Rattle.timing_wheel.specs.Wheel.{Pending}
-use Rattle.timing_wheel.proofs.Live.{apart_of, held}
-use Rattle.timing_wheel.proofs.Copied.{Copies, copies_none, copies_idle, copies_more, copies_all, put_counts}
+use Rattle.timing_wheel.proofs.Live.{apart_of}
+use Rattle.timing_wheel.proofs.Copied.{copies_none, copies_idle, copies_more, copies_all, put_counts}
 use Rattle.timing_wheel.proofs.wheel.Wheel.larger.Goals as goal
 use Rattle.timing_wheel.proofs.wheel.Wheel.larger.Goals.{then-time, else-time}
 
@@ -29,10 +29,12 @@ loop-slot-preserved c =
           let room : 0 < c.loop-slot.copy.spare = omega (arith, so_far.0, so_far.1, c.max-slots.ensures, c.len.ensures) in
           let counts = put_counts c.loop-slot.copy.times v.index.result.now c.time-time.result c.loop-slot.copy.spare v.place.new.self.spare room v.place.ensures.spare in
           let longer : len v.place.new.self.times ≡ len (insert c.loop-slot.copy.times v.index.result.now c.time-time.result) = ap (λ (m : FinMap nat_cmp ℕ). len m) v.place.ensures.times in
-          rw v.copy-is
-          (omega (arith, longer, counts.0, so_far.0), omega (arith, longer, counts.1, so_far.1),
+          rw v.copy-is (
+            omega (arith, longer, counts.0, so_far.0),
+            omega (arith, longer, counts.1, so_far.1),
             copies_more s.keys.items s.schedule c.loop-slot.copy.times v.place.new.self.times slot (apart_of s.index s.keys.items s.schedule w.indexed) so_far.2 fits used
-              (v.place.ensures.times ∙ ap (λ (k : ℕ). insert c.loop-slot.copy.times k c.time-time.result) key ∙ ap (insert c.loop-slot.copy.times (get_or s.keys.items slot 0)) c.time-time.ensures))
+                (v.place.ensures.times ∙ ap (λ (k : ℕ). insert c.loop-slot.copy.times k c.time-time.result) key ∙ ap (insert c.loop-slot.copy.times (get_or s.keys.items slot 0)) c.time-time.ensures),
+          )
       | else-time v ↦ rw v.copy-is (so_far.0, omega (arith, so_far.1), copies_idle s.keys.items s.schedule c.loop-slot.copy.times c.loop-slot.slot so_far.2 (sym c.time-time.ensures ∙ v.if-time.false))
     ]
 

@@ -1,4 +1,4 @@
-use Rattle.std.proofs.Common.{◌≡◌, ℕ, ◌+◌, ◌≤◌}
+use Rattle.std.proofs.Common.{◌≡◌, ◌+◌, ◌≤◌}
 use Rattle.std.specs.FinMap.{len}
 use Rattle.timing_wheel.proofs.Copied.{Copies}
 use Rattle.timing_wheel.proofs.wheel.Wheel.larger.Given as goal

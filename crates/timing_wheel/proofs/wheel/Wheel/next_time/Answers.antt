@@ -1,9 +1,6 @@
-use Rattle.std.proofs.Common.{◌≡◌, ◌≢◌, ◌<◌, ◌≤◌, ◌+◌, ◌-◌, ℕ, Bool, List, length, get_or, set, cond, if◌then◌else◌, refl, sym, ap, subst, ◌∙◌, arith}
-use Rattle.std.proofs.lemmas.List.{length-set}
+use Rattle.std.proofs.Common.{◌≡◌, refl, subst, arith}
 use Rattle.std.specs.FinMap.{empty}
-use Rattle.timing_wheel.specs.Times.{idle}
 use Rattle.timing_wheel.specs.Wheel.{Pending, IsLeastTime}
-use Rattle.timing_wheel.proofs.Live.{IsAbsent, held, count_stop, count_start, count_rest}
 use Rattle.timing_wheel.proofs.Held.{least_held, empty_held, not_empty}
 use Rattle.timing_wheel.proofs.wheel.Wheel.next_time.Goals as goal
 

@@ -1,9 +1,9 @@
-use Rattle.std.proofs.Common.{◌≡◌, ◌≢◌, ◌<◌, ◌≤◌, ◌+◌, ◌-◌, ℕ, Bool, List, length, get_or, set, cond, if◌then◌else◌, refl, sym, ap, subst, ◌∙◌, arith}
+use Rattle.std.proofs.Common.{◌≡◌, ◌<◌, length, get_or, set, sym, subst, ◌∙◌, arith}
 use Rattle.std.proofs.lemmas.List.{length-set, get_or_default}
-use Rattle.std.specs.FinMap.{contains_key, insert, remove}
+use Rattle.std.specs.FinMap.{remove}
 use Rattle.timing_wheel.specs.Times.{idle}
 use Rattle.timing_wheel.specs.Wheel.{Pending, NoneDue, IsLeastDue}
-use Rattle.timing_wheel.proofs.Live.{IsAbsent, held, count_stop, count_start, count_rest, get_present, apart_of}
+use Rattle.timing_wheel.proofs.Live.{held, count_stop, count_rest, get_present, apart_of}
 use Rattle.timing_wheel.proofs.Held.{least_held, none_held, none_idle, held_cancel}
 use Rattle.timing_wheel.proofs.wheel.Wheel.take_one.Goals as goal
 
@@ -33,11 +33,12 @@ returns-clause-taken c =
     let w = c.self.invariant in
     let fits : c.in_ok-slot.slot < length s.keys.items = omega (arith, c.in_ok-slot.ensures.within, w.size) in
     let key_is : get_or s.keys.items c.in_ok-slot.slot 0 ≡ c.index.result.now = sym (c.index.ensures ∙ get_or_default s.keys.items c.in_ok-slot.slot _ 0 fits) in
-    subst (λ (p : Pending). IsLeastDue p.times c.args.t c.index.result.now) c.self.view_is
-    (get_or s.schedule c.in_ok-slot.slot 0,
+    subst (λ (p : Pending). IsLeastDue p.times c.args.t c.index.result.now) c.self.view_is (
+      get_or s.schedule c.in_ok-slot.slot 0,
       get_present s.keys.items s.schedule c.index.result.now c.in_ok-slot.slot w.size (apart_of s.index s.keys.items s.schedule w.indexed) (fits, (λ e. omega (arith, c.in_ok-slot.ensures.used)), key_is),
       omega (arith, c.time.ensures, c.if-time-t.false),
-      least_held s.keys.items s.schedule s.index s.spare (get_or s.schedule c.in_ok-slot.slot 0) w c.in_ok-slot.ensures.least c.in_ok-slot.ensures.used)
+      least_held s.keys.items s.schedule s.index s.spare (get_or s.schedule c.in_ok-slot.slot 0) w c.in_ok-slot.ensures.least c.in_ok-slot.ensures.used,
+    )
 
 pub returns-clause-times : goal.returns-clause-times
 returns-clause-times c =

@@ -1,4 +1,4 @@
-use Rattle.std.proofs.Common.{◌≤◌, ◌-◌, length, subst, arith}
+use Rattle.std.proofs.Common.{◌≤◌, ◌-◌, subst, arith}
 use Rattle.std.specs.FinMap.{len}
 use Rattle.timing_wheel.specs.Wheel.{Pending}
 use Rattle.timing_wheel.proofs.Taken.{len_held}
