@@ -1,1 +1,2 @@
 pub mod InertiaLemmas
+pub mod TickLemmas

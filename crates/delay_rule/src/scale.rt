@@ -1,5 +1,5 @@
 ghost use Rattle.std.specs.Prelude.{◌≡◌, ◌*◌, ◌^◌, ◌≤◌, ◌≤ℤ◌, drop, min, negsuc, pos};
-ghost use Rattle.delay_rule.specs.Ticks.{AreDigits, delay_in_ticks, half_up as half_up_of, number_after, rounded as rounded_of, ticks_of};
+ghost use Rattle.delay_rule.specs.Ticks.{AreDigits, delay_in_ticks, half_up as half_up_of, number_after, places as places_of, rounded as rounded_of, ticks_of};
 
 /// What is above every delay, at which counting stops.
 const TOO_LONG: u64 = 1 << 31;
@@ -57,6 +57,16 @@ fn rounded(whole: &[u8], fraction: &[u8], k: usize) -> u64
     bounded(with_zeros(amount, k - written) + half_up(fraction, k))
 }
 
+/// How many powers of ten lie between two exponents.
+fn places(above: i8, below: i8) -> usize
+    requires least { negsuc 14 ≤ℤ below }
+    requires order { below ≤ℤ above }
+    requires greatest { above ≤ℤ pos 2 }
+    ensures { result ≡ places_of above below }
+{
+    (above - below) as usize
+}
+
 /// The delay, unless it is past the greatest.
 fn delay(ticks: u64) -> Option<u32>
     ensures { result ≡ delay_in_ticks ticks }
@@ -82,7 +92,6 @@ pub fn ticks(whole: &[u8], fraction: &[u8], unit: i8, precision: i8, tick: i8) -
     requires greatest { unit ≤ℤ pos 2 }
     ensures { result ≡ delay_in_ticks (ticks_of whole.now fraction.now unit precision tick) }
 {
-    let k = unit.abs_diff(precision) as usize;
-    let amount = rounded(whole, fraction, k);
-    delay(with_zeros(amount, precision.abs_diff(tick) as usize))
+    let amount = rounded(whole, fraction, places(unit, precision));
+    delay(with_zeros(amount, places(precision, tick)))
 }

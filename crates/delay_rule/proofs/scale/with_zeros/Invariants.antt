@@ -1,5 +1,5 @@
 use Rattle.std.proofs.Common.{◌≡◌, ◌*◌, ◌^◌, min}
 use Rattle.delay_rule.proofs.scale.with_zeros.Given as goal
 
-abbrev pub invariant-loop-_zeros : goal.invariant-loop-_zeros
-invariant-loop-_zeros l = l.value ≡ min (l.number * 10 ^ l._zeros) (2 ^ 31)
+abbrev pub invariant-loop-zeros : goal.invariant-loop-zeros
+invariant-loop-zeros l = l.value ≡ min (l.number * 10 ^ l._zeros) (2 ^ 31)
