@@ -2,6 +2,7 @@
 #![tactic(auto)]
 
 mod shape;
+mod side;
 
 pub use shape::{KindList, LevelList, Link, LinkList, Shape};
 

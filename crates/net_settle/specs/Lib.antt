@@ -1,0 +1,4 @@
+pub mod Bounds
+pub mod Settling
+pub mod ByLevels
+pub mod Charges
