@@ -1,3 +1,4 @@
 pub mod Ranks
 pub mod Walks
 pub mod Rounds
+pub mod InOrder
