@@ -12,7 +12,8 @@ use Rattle.net_settle.specs.declared.side.Side.{Side}
 use Rattle.net_settle.specs.declared.side.Side.TheVariants.{Lower, Upper}
 use Rattle.net_settle.specs.Bounds.{Switch, at, carried, is_favoured}
 use Rattle.net_settle.specs.Settling.{Joins, Brings, IsWalk, IsSettled}
-use Rattle.net_settle.proofs.Ranks.{rank, rank-none, low_rank, high_rank}
+use Rattle.net_settle.specs.Progress.{rank, low_rank, high_rank}
+use Rattle.net_settle.proofs.Ranks.{rank-none}
 use Rattle.net_settle.proofs.Walks.{settled-most, bounds-most, has_net}
 
 -- one side and the other

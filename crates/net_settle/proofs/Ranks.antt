@@ -1,4 +1,4 @@
--- Bounds by their rank: of two bounds the better one has the greater rank.
+-- The ranks of bounds.
 use Rattle.std.proofs.Common.{◌≡◌, ℕ, zero, suc, ◌+◌, ◌-◌, ◌*◌, ◌<◌, ◌≤◌, add-zero, Bool, true, false, cond, refl, ap, sym, ◌∙◌, arith, inl, inr}
 use Rattle.std.specs.Prelude.{ℤ, pos, negsuc, ◌≤ℤ◌, ◌<ℤ◌, int_lt, unsigned_abs, ◌⊎◌}
 use Rattle.std.proofs.lemmas.Int.{ints}
@@ -11,20 +11,7 @@ use Rattle.net_settle.specs.declared.shape.Link.{Link}
 use Rattle.net_settle.specs.declared.side.Side.{Side}
 use Rattle.net_settle.specs.declared.side.Side.TheVariants.{Lower, Upper}
 use Rattle.net_settle.specs.Bounds.{better, is_favoured, favoured, opposed, carried}
-
-abbrev pub low_rank : ℤ → ℕ
-low_rank (pos zero) = 0
-low_rank (pos (suc n)) = 2 * n + 1
-low_rank (negsuc n) = 2 * n + 2
-
-abbrev pub high_rank : ℤ → ℕ
-high_rank (pos zero) = 0
-high_rank (pos (suc n)) = 2 * n + 2
-high_rank (negsuc n) = 2 * n + 1
-
-abbrev pub rank : Side → ℤ → ℕ
-rank Lower v = low_rank v
-rank Upper v = high_rank v
+use Rattle.net_settle.specs.Progress.{rank, low_rank, high_rank}
 
 pub rank-injective : (side : Side) (x y : ℤ) → rank side x ≡ rank side y → x ≡ y
 rank-injective Lower (pos zero) (pos zero) e = refl

@@ -12,13 +12,9 @@ use Rattle.net_settle.specs.declared.side.Side.{Side}
 use Rattle.net_settle.specs.Bounds.{Switch, at, better, carried, favoured, opposed}
 use Rattle.net_settle.specs.Settling.{Joins, Brings, IsSettled}
 use Rattle.net_settle.specs.ByLevels.{taken, own_taken, carried_taken, rounds, spread, spread_from, settled_bounds}
-use Rattle.net_settle.proofs.Ranks.{rank, rank-none, rank-favoured, rank-opposed}
-use Rattle.net_settle.proofs.Walks.{IsDone, IsIdle, Offered, takes, finishes, settles, starts}
-
--- how many nets have no bound yet
-pub without : List ℤ → ℕ
-without [] = 0
-without (v ∷ bounds) = cond (int_eq v (pos 0)) 1 0 + without bounds
+use Rattle.net_settle.specs.Progress.{rank, IsDone, without}
+use Rattle.net_settle.proofs.Ranks.{rank-none, rank-favoured, rank-opposed}
+use Rattle.net_settle.proofs.Walks.{IsIdle, Offered, takes, finishes, settles, starts}
 
 pub int_eq_cases : (x y : ℤ) → ((int_eq x y ≡ true) × (x ≡ y)) ⊎ ((int_eq x y ≡ false) × (x ≢ y))
 int_eq_cases x y = elim (cases_Bool (int_eq x y)) [
@@ -72,12 +68,12 @@ without-most (u ∷ bounds) =
     ]
 
 -- either fewer nets have no bound, or nothing changed and a fact holds
-pub Moves : (List ℤ → Type 0) → List ℤ → List ℤ → Type 0
-Moves Rests before after = (without after < without before) ⊎ ((after ≡ before) × Rests before)
+pub Falls : (List ℤ → Type 0) → List ℤ → List ℤ → Type 0
+Falls Rests before after = (without after < without before) ⊎ ((after ≡ before) × Rests before)
 
 pub moves-then : (A B C : List ℤ → Type 0) (before between after : List ℤ) → ((bounds : List ℤ) → A bounds → B bounds → C bounds) →
-    Moves A before between → Moves B between after → Moves C before after
-unfolding Moves
+    Falls A before between → Falls B between after → Falls C before after
+unfolding Falls
 moves-then A B C before between after both (inl lt) (inl lt2) = inl (omega arith)
 moves-then A B C before between after both (inl lt) (inr (e, b)) =
     let f : without after ≡ without between = ap without e in inl (omega arith)
@@ -107,8 +103,8 @@ module _ (side : Side) (switches : List Switch) (own : List ℤ) where
 
   pub taken-moves : (r : ℕ) (v : ℤ) (n : ℕ) (comes : List ℤ → ℤ) (bounds : List ℤ) → IsDone side switches own (suc r) bounds →
       rank side v ≡ suc r → (comes bounds ≡ v → Offered side switches own bounds n v) →
-      IsDone side switches own (suc r) (taken v n (comes bounds) bounds) × Moves (TakesNone v n comes) bounds (taken v n (comes bounds) bounds)
-  unfolding Moves TakesNone
+      IsDone side switches own (suc r) (taken v n (comes bounds) bounds) × Falls (TakesNone v n comes) bounds (taken v n (comes bounds) bounds)
+  unfolding Falls TakesNone
   taken-moves r v n comes bounds done level offered = elim (cases_lt n (length own)) [
     | inl lt ↦ elim (int_eq_cases (at bounds n) (pos 0)) [
       | inl (_, none) ↦ elim (int_eq_cases (comes bounds) v) [
@@ -136,8 +132,8 @@ module _ (side : Side) (switches : List Switch) (own : List ℤ) where
   OwnIdle v k bounds = (n : ℕ) → n < k → n < length own → at bounds n ≡ pos 0 → at own n ≢ v
 
   own-moves : (r : ℕ) (v : ℤ) (k : ℕ) (bounds : List ℤ) → IsDone side switches own (suc r) bounds → rank side v ≡ suc r →
-      IsDone side switches own (suc r) (own_taken v own k bounds) × Moves (OwnIdle v k) bounds (own_taken v own k bounds)
-  unfolding Moves OwnIdle TakesNone
+      IsDone side switches own (suc r) (own_taken v own k bounds) × Falls (OwnIdle v k) bounds (own_taken v own k bounds)
+  unfolding Falls OwnIdle TakesNone
   own-moves r v zero bounds done level = (done, inr (refl, λ n lt. absurd (omega arith)))
   own-moves r v (suc k) bounds done level =
       let before = own-moves r v k bounds done level in
@@ -160,8 +156,8 @@ module _ (side : Side) (switches : List Switch) (own : List ℤ) where
 
   carried-moves : (r : ℕ) (v : ℤ) (part : List Switch) → ((s : Switch) → Contains part s → Contains switches s) → (bounds : List ℤ) →
       IsDone side switches own (suc r) bounds → rank side v ≡ suc r →
-      IsDone side switches own (suc r) (carried_taken side v part bounds) × Moves (CarriedIdle v part) bounds (carried_taken side v part bounds)
-  unfolding Moves CarriedIdle TakesNone
+      IsDone side switches own (suc r) (carried_taken side v part bounds) × Falls (CarriedIdle v part) bounds (carried_taken side v part bounds)
+  unfolding Falls CarriedIdle TakesNone
   carried-moves r v [] inside bounds done level = (done, inr (refl, λ link conduct m n (k, lt, _). absurd (omega arith)))
   carried-moves r v ((link, conduct) ∷ part) inside bounds done level =
       let to : List ℤ → ℤ = λ b. carried side link conduct (at b link.a) in
@@ -205,7 +201,7 @@ module _ (side : Side) (switches : List Switch) (own : List ℤ) where
   Idle v bounds = IsIdle side switches own bounds v
 
   round-moves : (r : ℕ) (v : ℤ) (bounds : List ℤ) → IsDone side switches own (suc r) bounds → rank side v ≡ suc r →
-      IsDone side switches own (suc r) (round v bounds) × Moves (Idle v) bounds (round v bounds)
+      IsDone side switches own (suc r) (round v bounds) × Falls (Idle v) bounds (round v bounds)
   unfolding round Idle OwnIdle CarriedIdle
   round-moves r v bounds done level =
       let a = own-moves r v (length own) bounds done level in
@@ -226,7 +222,7 @@ module _ (side : Side) (switches : List Switch) (own : List ℤ) where
 
   rounds-idle : (r : ℕ) (v : ℤ) (k : ℕ) (bounds : List ℤ) → without bounds ≤ k → IsDone side switches own (suc r) bounds → rank side v ≡ suc r →
       IsDone side switches own (suc r) (rounds side v switches own k bounds) × IsIdle side switches own (rounds side v switches own k bounds) v
-  unfolding round Idle Moves
+  unfolding round Idle Falls
   rounds-idle r v zero bounds few done level = (done, record {
     owned = λ n lt none. absurd (without-none bounds (omega arith) n (let k = done.nets in omega arith) none);
     brought = λ link conduct m n there joins lt none. absurd (without-none bounds (omega arith) n (let k = done.nets in omega arith) none);

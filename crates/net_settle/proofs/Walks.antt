@@ -8,7 +8,8 @@ use Rattle.net_settle.specs.declared.shape.Link.{Link}
 use Rattle.net_settle.specs.declared.side.Side.{Side}
 use Rattle.net_settle.specs.Bounds.{Switch, at, better, carried}
 use Rattle.net_settle.specs.Settling.{Joins, Brings, Comes, IsBest, IsWalk, IsSettled}
-use Rattle.net_settle.proofs.Ranks.{rank, rank-none, rank-injective, rank-carried, carried-none, better-from_rank, rank-from_better}
+use Rattle.net_settle.specs.Progress.{rank, IsDone}
+use Rattle.net_settle.proofs.Ranks.{rank-none, rank-injective, rank-carried, carried-none, better-from_rank, rank-from_better}
 
 -- a net other than the changed one keeps its bound
 pub at-other : (bounds : List ℤ) (i n : ℕ) (v : ℤ) → n ≢ i → at (slice_set bounds i v) n ≡ at bounds n
@@ -18,19 +19,6 @@ pub at-same : (bounds : List ℤ) (i : ℕ) (v : ℤ) → i < length bounds → 
 at-same bounds i v h = get_or-set_same bounds i v (pos 0) h
 
 module _ (side : Side) (switches : List Switch) (own : List ℤ) where
-  Walk : List ℤ → ℕ → Type 0
-  Walk bounds n = (steps : ℕ) × IsWalk side switches own bounds steps n
-
-  -- all bounds of a rank above r are finished, and there are none of lower rank
-  pub record IsDone (r : ℕ) (bounds : List ℤ) : Type 0 where
-    pub nets : length bounds ≡ length own
-    pub above : (n : ℕ) → at bounds n ≢ pos 0 → r ≤ rank side (at bounds n)
-    pub owned : (n : ℕ) → n < length own → r < rank side (at own n) → rank side (at own n) ≤ rank side (at bounds n)
-    pub brought :
-      (link : Link) (conduct : Conduct) (m n : ℕ) → Contains switches (link, conduct) → Joins link m n → n < length own
-      → r < rank side (carried side link conduct (at bounds m)) → rank side (carried side link conduct (at bounds m)) ≤ rank side (at bounds n)
-    pub source : (n : ℕ) → at bounds n ≢ pos 0 → (steps : ℕ) × IsWalk side switches own bounds steps n
-
   -- a walk to a net with a bound passes no net without one
   passes : (bounds : List ℤ) (i : ℕ) (v : ℤ) → at bounds i ≡ pos 0 → (steps : ℕ) (n : ℕ) → at bounds n ≢ pos 0 →
       IsWalk side switches own bounds steps n → IsWalk side switches own (slice_set bounds i v) steps n
@@ -57,8 +45,8 @@ module _ (side : Side) (switches : List Switch) (own : List ℤ) where
   Offered bounds n v = (at own n ≡ v) ⊎ ((m : ℕ) × Brings side switches bounds m n v)
 
   -- a net without a bound takes a level that comes to it
-  pub takes : (r : ℕ) (bounds : List ℤ) (n : ℕ) (v : ℤ) → IsDone (suc r) bounds → rank side v ≡ suc r → n < length own →
-      at bounds n ≡ pos 0 → Offered bounds n v → IsDone (suc r) (slice_set bounds n v)
+  pub takes : (r : ℕ) (bounds : List ℤ) (n : ℕ) (v : ℤ) → IsDone side switches own (suc r) bounds → rank side v ≡ suc r → n < length own →
+      at bounds n ≡ pos 0 → Offered bounds n v → IsDone side switches own (suc r) (slice_set bounds n v)
   takes r bounds n v done level inside none offered = record {
     nets = length-set bounds n v ∙ done.nets;
     above = λ k some. elim (cases_eq k n) [
@@ -136,7 +124,7 @@ module _ (side : Side) (switches : List Switch) (own : List ℤ) where
       → at bounds n ≡ pos 0 → carried side link conduct (at bounds m) ≢ v
 
   -- where no net takes a level any more it is finished
-  pub finishes : (r : ℕ) (bounds : List ℤ) (v : ℤ) → IsDone (suc r) bounds → rank side v ≡ suc r → IsIdle bounds v → IsDone r bounds
+  pub finishes : (r : ℕ) (bounds : List ℤ) (v : ℤ) → IsDone side switches own (suc r) bounds → rank side v ≡ suc r → IsIdle bounds v → IsDone side switches own r bounds
   finishes r bounds v done level idle = record {
     nets = done.nets;
     above = λ n some. let h = done.above n some in omega arith;
@@ -175,7 +163,7 @@ module _ (side : Side) (switches : List Switch) (own : List ℤ) where
   ]
 
   -- bounds with all levels finished are settled
-  pub settles : (bounds : List ℤ) → IsDone 0 bounds → IsSettled side switches own bounds
+  pub settles : (bounds : List ℤ) → IsDone side switches own 0 bounds → IsSettled side switches own bounds
   settles bounds done = record {
     nets = done.nets;
     best = λ n inside. record {
@@ -313,7 +301,7 @@ module _ (side : Side) (switches : List Switch) (own : List ℤ) where
 
   -- at first no net has a bound
   pub starts : (r : ℕ) → ((n : ℕ) → rank side (at own n) ≤ r) → (bounds : List ℤ) → length bounds ≡ length own →
-      ((n : ℕ) → at bounds n ≡ pos 0) → IsDone r bounds
+      ((n : ℕ) → at bounds n ≡ pos 0) → IsDone side switches own r bounds
   starts r own_most bounds nets none = record {
     nets = nets;
     above = λ n some. absurd (some (none n));

@@ -2,3 +2,4 @@ pub mod Bounds
 pub mod Settling
 pub mod ByLevels
 pub mod Charges
+pub mod Progress
