@@ -2,3 +2,4 @@ pub mod Ranks
 pub mod Walks
 pub mod Rounds
 pub mod InOrder
+pub mod Taking

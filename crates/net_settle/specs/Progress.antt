@@ -1,5 +1,5 @@
 -- Only the bodies and their proofs use these: how far bounds have come while levels spread.
-use Rattle.std.specs.Prelude.{◌≡◌, ◌≢◌, ◌+◌, ◌*◌, ◌<◌, ◌≤◌, ℕ, zero, suc, Bool, ℤ, pos, negsuc, if◌then◌else◌, List, [], ◌∷◌, length, Contains, MatchBool}
+use Rattle.std.specs.Prelude.{◌≡◌, ◌≢◌, ◌+◌, ◌*◌, ◌<◌, ◌≤◌, ℕ, zero, suc, Bool, ℤ, pos, negsuc, if◌then◌else◌, List, [], ◌∷◌, length, Contains, All, MatchBool}
 use Rattle.std.specs.Ordering.{int_eq}
 use Rattle.level_range.specs.declared.range.Conduct.{Conduct}
 use Rattle.net_settle.specs.declared.shape.Link.{Link}
@@ -52,14 +52,18 @@ unfoldable pub without : List ℤ → ℕ
 without [] = 0
 without (v ∷ bounds) = (if int_eq v (pos 0) then 1 else 0) + without bounds
 
--- nets took a level that their own signals or these switches bring, and nothing else changed
+-- nets without a bound took a level that these switches bring, and nothing else changed
 pub record Spreads (side : Side) (switches : List Switch) (v : ℤ) (before after : List ℤ) : Type 0 where
   pub nets : length after ≡ length before
+  pub grows : (n : ℕ) → at after n ≡ pos 0 → at before n ≡ pos 0
   pub keeps :
     (own : List ℤ) (r : ℕ) → rank side v ≡ suc r → IsDone side switches own (suc r) before
     → IsDone side switches own (suc r) after
-  pub grows : (n : ℕ) → at after n ≡ pos 0 → at before n ≡ pos 0
 
 -- where something changed fewer nets have no bound, else a fact holds
 abbrev pub Moves : Bool → Type 0 → List ℤ → List ℤ → Type 0
 Moves changed Rests before after = MatchBool changed (without after < without before) ((after ≡ before) × Rests)
+
+-- the ends of each link are among so many nets
+abbrev pub EndsWithin : ℕ → List Link → Type 0
+EndsWithin nets links = All (λ link. (link.a < nets) × (link.b < nets)) links

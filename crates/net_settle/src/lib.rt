@@ -1,8 +1,10 @@
 //! Settling of the nets that bidirectional switches join, with unknown switches and stored charge.
 #![tactic(auto)]
 
+mod level;
 mod shape;
 mod side;
+mod spread;
 
 pub use shape::{KindList, LevelList, Link, LinkList, Shape};
 
