@@ -3,3 +3,4 @@ pub mod Walks
 pub mod Rounds
 pub mod InOrder
 pub mod Taking
+pub mod Walking

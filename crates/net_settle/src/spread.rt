@@ -72,7 +72,9 @@ fn walk(bounds: &mut [Level], links: &[Link], on: &[Conduct], level: Level, side
     for passed in 0..count {
         let at = if backwards { count - 1 - passed } else { passed };
         let took = take_carried(bounds, links[at], on[at], level, side);
-        changed = changed || took;
+        if took {
+            changed = true;
+        }
     }
     changed
 }
