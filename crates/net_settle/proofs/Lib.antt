@@ -4,3 +4,6 @@ pub mod Rounds
 pub mod InOrder
 pub mod Taking
 pub mod Walking
+pub mod Signals
+pub mod SameSignal
+pub mod ChargeBounds

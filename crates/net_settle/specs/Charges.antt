@@ -23,11 +23,15 @@ excludes_zero s = int_lt s.hi (pos 0) || int_lt (pos 0) s.lo
 abbrev pub level : ℤ → Signal
 level v = record { lo = v; hi = v }
 
--- the charge with a level of strength c for each sign that the driven signal has
+-- the charge with the level of strength c and value 0 where the driven signal has a level below 0
+abbrev pub widened_down : ℕ → Signal → Signal → Signal
+widened_down c charge driven = if int_lt driven.lo (pos 0) then hull_of charge (level (below c)) else charge
+
+-- and with that of value 1 where the driven signal has a level above 0
 abbrev pub widened : ℕ → Signal → Signal → Signal
 widened c charge driven =
-    let down = if int_lt driven.lo (pos 0) then hull_of charge (level (below c)) else charge in
-    if int_lt (pos 0) driven.hi then hull_of down (level (pos c)) else down
+    if int_lt (pos 0) driven.hi then hull_of (widened_down c charge driven) (level (pos c))
+    else widened_down c charge driven
 
 -- what a net's charge of strength c contributes: nothing where there is none or where the driven signal excludes 0
 abbrev pub contribution : ℕ → Signal → Signal → Signal

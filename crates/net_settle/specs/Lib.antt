@@ -2,4 +2,5 @@ pub mod Bounds
 pub mod Settling
 pub mod ByLevels
 pub mod Charges
+pub mod Conditions
 pub mod Progress

@@ -63,7 +63,3 @@ pub record Spreads (side : Side) (switches : List Switch) (v : ℤ) (before afte
 -- where something changed fewer nets have no bound, else a fact holds
 abbrev pub Moves : Bool → Type 0 → List ℤ → List ℤ → Type 0
 Moves changed Rests before after = MatchBool changed (without after < without before) ((after ≡ before) × Rests)
-
--- the ends of each link are among so many nets
-abbrev pub EndsWithin : ℕ → List Link → Type 0
-EndsWithin nets links = All (λ link. (link.a < nets) × (link.b < nets)) links

@@ -1,6 +1,7 @@
 ghost use Rattle.std.specs.Prelude.{◌≡◌, ◌≤◌, pos, negsuc, ◌≤ℤ◌};
 ghost use Rattle.level_range.specs.Signal.{below};
 
+use level_range::Range;
 use std::marker::Model;
 
 /// A level: a strength, 0 to 7, with a sign. Contracts see the number.
@@ -59,4 +60,13 @@ impl Level {
             value: strength as i8,
         }
     }
+}
+
+/// The signal of all levels from one to another, which isn't below it.
+#[tactic(auto, using(crate::proofs::SameSignal::same_signal))]
+pub fn signal(lower: Level, upper: Level) -> Range
+    requires { lower ≤ℤ upper }
+    ensures { result ≡ record { lo = lower; hi = upper } }
+{
+    Range::new(lower.get(), upper.get())
 }

@@ -1,5 +1,6 @@
 ghost use Rattle.std.specs.Prelude.{◌≡◌, ◌≤◌};
 ghost use Rattle.level_range.specs.Reduce.{reduced_level};
+ghost use Rattle.level_range.specs.Signal.{IsSignal};
 ghost use Rattle.net_settle.specs.Bounds.{bound_of, is_favoured as is_favoured_on, favoured as favoured_of, opposed as opposed_of, carried as carried_of};
 
 use crate::level::Level;
@@ -15,7 +16,8 @@ pub enum Side {
 
 /// The bound of a signal.
 pub fn bound(signal: Range, side: Side) -> Level
-    ensures { result ≡ bound_of side signal }
+    ensures value { result ≡ bound_of side signal }
+    ensures signal { IsSignal signal }
 {
     match side {
         Side::Lower => Level::new(signal.lo),

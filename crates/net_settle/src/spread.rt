@@ -1,8 +1,10 @@
 ghost use Rattle.std.specs.Prelude.{◌≡◌, ◌≢◌, ◌<◌, ◌≤◌, ◌-◌, ℕ, suc, pos, length, zip, All, List, ℤ, Contains, MatchBool};
+ghost use Rattle.level_range.specs.Signal.{IsSignal};
 ghost use Rattle.net_settle.specs.Bounds.{Switch, at, bounds_of, carried as carried_of};
 ghost use Rattle.net_settle.specs.Settling.{IsSettled};
-ghost use Rattle.net_settle.specs.ByLevels.{taken};
-ghost use Rattle.net_settle.specs.Progress.{rank, EndsWithin, IsDone, OwnRests, LinkRests, LinksRest, Spreads, Moves};
+ghost use Rattle.net_settle.specs.ByLevels.{taken, settled_bounds};
+ghost use Rattle.net_settle.specs.Conditions.{EndsWithin};
+ghost use Rattle.net_settle.specs.Progress.{rank, IsDone, OwnRests, LinkRests, LinksRest, Spreads, Moves};
 
 use crate::level::Level;
 use crate::shape::Link;
@@ -77,4 +79,52 @@ fn walk(bounds: &mut [Level], links: &[Link], on: &[Conduct], level: Level, side
         }
     }
     changed
+}
+
+/// Gives the level to the nets without a bound to which it comes, until it comes to none.
+fn spread(bounds: &mut [Level], links: &[Link], on: &[Conduct], own: &[Range], level: Level, side: Side)
+    requires nets { length own.now ≡ length bounds.old }
+    requires conduction { length on.now ≡ length links.now }
+    requires ends { EndsWithin (length bounds.old) links.now }
+    requires some { level ≢ pos 0 }
+    ensures finishes {
+        (r : ℕ) → rank side level ≡ suc r
+        → IsDone side (zip links.now on.now) (bounds_of side own.now) (suc r) bounds.old
+        → IsDone side (zip links.now on.now) (bounds_of side own.now) r bounds.new
+    }
+{
+    take_own(bounds, own, level, side);
+    let mut backwards = false;
+    'walks: while walk(bounds, links, on, level, side, backwards) {
+        backwards = !backwards;
+    }
+}
+
+/// Takes all bounds away. On the way it learns that the own signals are signals.
+fn clear(bounds: &mut [Level], own: &[Range])
+    requires nets { length own.now ≡ length bounds.old }
+    ensures none { (n : ℕ) → at bounds.new n ≡ pos 0 }
+    ensures signals { All IsSignal own.now }
+{
+    for net in 0..bounds.len() {
+        let _bound = bound(own[net], Side::Lower);
+        bounds[net] = Level::zero(0);
+    }
+}
+
+/// The finished bounds of nets whose own signals are given.
+pub fn settle_bounds(bounds: &mut [Level], links: &[Link], on: &[Conduct], own: &[Range], side: Side)
+    requires nets { length own.now ≡ length bounds.old }
+    requires conduction { length on.now ≡ length links.now }
+    requires ends { EndsWithin (length bounds.old) links.now }
+    ensures settled { IsSettled side (zip links.now on.now) (bounds_of side own.now) bounds.new }
+    ensures value { bounds.new ≡ settled_bounds side (zip links.now on.now) (bounds_of side own.now) }
+    ensures signals { All IsSignal own.now }
+{
+    clear(bounds, own);
+    for weaker in 0..7u8 {
+        let strength = 7 - weaker;
+        spread(bounds, links, on, own, favoured(strength, side), side);
+        spread(bounds, links, on, own, opposed(strength, side), side);
+    }
 }
