@@ -7,3 +7,4 @@ pub mod Walking
 pub mod Signals
 pub mod SameSignal
 pub mod ChargeBounds
+pub mod Listed

@@ -49,9 +49,12 @@ spread_from side switches own (suc k) bounds =
 unfoldable pub settled_bounds : Side → List Switch → List ℤ → List ℤ
 settled_bounds side switches own = spread_from side switches own 7 (replicate (length own) (pos 0))
 
+-- the signals from lower to upper bounds, for so many nets
+unfoldable pub signals_between : List ℤ → List ℤ → ℕ → List Signal
+signals_between lower upper nets = map (λ n. record { lo = at lower n; hi = at upper n }) (range_with_len 0 nets)
+
 -- the signals of nets whose own signals are given
 unfoldable pub settled : List Switch → List Signal → List Signal
 settled switches own =
-    let lower = settled_bounds Lower switches (bounds_of Lower own) in
-    let upper = settled_bounds Upper switches (bounds_of Upper own) in
-    map (λ n. record { lo = at lower n; hi = at upper n }) (range_with_len 0 (length own))
+    signals_between (settled_bounds Lower switches (bounds_of Lower own)) (settled_bounds Upper switches (bounds_of Upper own))
+    (length own)

@@ -58,28 +58,29 @@ switches_of shape on = zip shape.links on
 unfoldable pub driven_signals : Shape → List Conduct → List Signal → List Signal
 driven_signals shape on own = settled (switches_of shape on) own
 
--- the own signals with what the charges contribute
-unfoldable pub charged_signals : Shape → List Signal → List Signal → List Signal → List Signal
-charged_signals shape own charges driven =
-    map (λ n. joined (slice_index_or shape.kinds n Plain) (signal_at own n)
-        (contribution (slice_index_or shape.charge n 0) (signal_at charges n) (signal_at driven n)))
+-- the own signals of nets, whose kinds and levels of charges are given, with what the charges contribute
+unfoldable pub charged_signals : List Kind → List ℕ → List Signal → List Signal → List Signal → List Signal
+charged_signals kinds levels own charges driven =
+    map (λ n. joined (slice_index_or kinds n Plain) (signal_at own n)
+        (contribution (slice_index_or levels n 0) (signal_at charges n) (signal_at driven n)))
     (range_with_len 0 (length own))
 
 -- of two settled signals the driven one where it excludes 0
 abbrev pub chosen : Signal → Signal → Signal
 chosen driven second = if excludes_zero driven then driven else second
 
+unfoldable pub chosen_signals : List Signal → List Signal → List Signal
+chosen_signals driven second =
+    map (λ n. chosen (signal_at driven n) (signal_at second n)) (range_with_len 0 (length driven))
+
 -- the signals: the driven ones where they exclude 0, else those that settle with charges
-unfoldable pub charged_from : Shape → List Conduct → List Signal → List Signal → List Signal → List Signal
-charged_from shape on own charges driven =
-    let second = settled (switches_of shape on) (charged_signals shape own charges driven) in
-    map (λ n. chosen (signal_at driven n) (signal_at second n)) (range_with_len 0 (length own))
-
 unfoldable pub island_signals : Shape → List Conduct → List Signal → List Signal → List Signal
-island_signals shape on own charges = charged_from shape on own charges (driven_signals shape on own)
+island_signals shape on own charges =
+    let driven = driven_signals shape on own in
+    chosen_signals driven (settled (switches_of shape on) (charged_signals shape.kinds shape.charge own charges driven))
 
--- what becomes of the charges by the signals of their nets
-unfoldable pub charges_left : Shape → List Signal → List Signal → List Signal
-charges_left shape charges signals =
-    map (λ n. charge_left (slice_index_or shape.charge n 0) (signal_at charges n) (signal_at signals n))
+-- what becomes of the charges, whose levels are given, by the signals of their nets
+unfoldable pub charges_left : List ℕ → List Signal → List Signal → List Signal
+charges_left levels charges signals =
+    map (λ n. charge_left (slice_index_or levels n 0) (signal_at charges n) (signal_at signals n))
     (range_with_len 0 (length charges))

@@ -3,6 +3,7 @@ ghost use Rattle.level_range.specs.Reduce.{hull_of};
 ghost use Rattle.net_settle.specs.Charges.{level as level_of, excludes_zero as excludes_zero_of, widened_down as widened_down_of, widened as widened_of, contribution as contribution_of, charge_bound as charge_bound_of, charge_left as charge_left_of};
 
 use crate::level::{Level, signal};
+use crate::side::{Side, bound};
 use level_range::Range;
 
 /// The least signal that contains both.
@@ -84,7 +85,7 @@ pub fn charge_left(strength: u8, charge: Range, settled: Range) -> Range
     if strength == 0 {
         return charge;
     }
-    let lower = charge_bound(strength, Level::new(settled.lo));
-    let upper = charge_bound(strength, Level::new(settled.hi));
+    let lower = charge_bound(strength, bound(settled, Side::Lower));
+    let upper = charge_bound(strength, bound(settled, Side::Upper));
     signal(lower, upper)
 }

@@ -2,16 +2,17 @@ ghost use Rattle.std.specs.Prelude.{◌≡◌, ◌≤◌, ◌<◌, ◌≤ℤ◌,
 ghost use Rattle.level_range.specs.Signal.{Signal};
 ghost use Rattle.net_settle.specs.Bounds.{at, bounds_of};
 ghost use Rattle.net_settle.specs.Settling.{IsSettled, AreSettled};
-ghost use Rattle.net_settle.specs.ByLevels.{settled_bounds, settled};
+ghost use Rattle.net_settle.specs.ByLevels.{settled_bounds, signals_between, settled};
+ghost use Rattle.net_settle.specs.Charges.{charged_signals, chosen_signals, charges_left, driven_signals, island_signals};
 ghost use Rattle.net_settle.specs.Conditions.{EndsWithin, IsChargeLevel, AreCharges, CanSettle, IsIsland};
 
 use crate::charge::{charge_left, contribution, excludes_zero};
-use crate::level::Level;
+use crate::level::{Level, signal};
 use crate::scratch::Scratch;
 use crate::shape::{Link, Shape};
 use crate::side::Side;
 use crate::spread::settle_bounds;
-use level_range::{Conduct, Range, join};
+use level_range::{Conduct, Kind, Range, join};
 
 /// The finished bounds of both sides.
 fn settle_both(lower: &mut [Level], upper: &mut [Level], links: &[Link], on: &[Conduct], own: &[Range])
@@ -27,4 +28,99 @@ fn settle_both(lower: &mut [Level], upper: &mut [Level], links: &[Link], on: &[C
 {
     settle_bounds(lower, links, on, own, Side::Lower);
     settle_bounds(upper, links, on, own, Side::Upper);
+}
+
+/// The signals without charges.
+fn drive(driven: &mut [Range], lower: &[Level], upper: &[Level])
+    requires lower { length lower.now ≡ length driven.old }
+    requires upper { length upper.now ≡ length driven.old }
+    requires in_order { (n : ℕ) → at lower.now n ≤ℤ at upper.now n }
+    ensures { driven.new ≡ signals_between lower.now upper.now (length driven.old) }
+{
+    for net in 0..driven.len() {
+        driven[net] = signal(lower[net], upper[net]);
+    }
+}
+
+/// The own signals with what the charges contribute.
+fn charge_signals(
+    out: &mut [Range],
+    kinds: &[Kind],
+    levels: &[u8],
+    own: &[Range],
+    charges: &[Range],
+    driven: &[Range],
+)
+    requires own { length own.now ≡ length out.old }
+    requires kinds { length kinds.now ≡ length out.old }
+    requires levels { length levels.now ≡ length out.old }
+    requires strengths { All IsChargeLevel levels.now }
+    requires charges { length charges.now ≡ length out.old }
+    requires driven { length driven.now ≡ length out.old }
+    ensures { out.new ≡ charged_signals kinds.now levels.now own.now charges.now driven.now }
+{
+    for net in 0..out.len() {
+        let given = contribution(levels[net], charges[net], driven[net]);
+        out[net] = join(own[net], given, kinds[net]);
+    }
+}
+
+/// The driven signals where they exclude 0, else those between the bounds.
+fn choose(out: &mut [Range], driven: &[Range], lower: &[Level], upper: &[Level])
+    requires driven { length driven.now ≡ length out.old }
+    requires lower { length lower.now ≡ length out.old }
+    requires upper { length upper.now ≡ length out.old }
+    requires in_order { (n : ℕ) → at lower.now n ≤ℤ at upper.now n }
+    ensures { out.new ≡ chosen_signals driven.now (signals_between lower.now upper.now (length out.old)) }
+{
+    for net in 0..out.len() {
+        out[net] = if excludes_zero(driven[net]) {
+            driven[net]
+        } else {
+            signal(lower[net], upper[net])
+        };
+    }
+}
+
+/// What becomes of the charges by the signals of their nets.
+fn keep_charges(charges: &mut [Range], levels: &[u8], signals: &[Range])
+    requires levels { length levels.now ≡ length charges.old }
+    requires strengths { All IsChargeLevel levels.now }
+    requires signals { length signals.now ≡ length charges.old }
+    ensures { charges.new ≡ charges_left levels.now charges.old signals.now }
+{
+    for net in 0..charges.len() {
+        charges[net] = charge_left(levels[net], charges[net], signals[net]);
+    }
+}
+
+/// Settles an island by its lists, in memory for its bounds.
+fn settle_lists(
+    shape: &Shape,
+    own: &[Range],
+    on: &[Conduct],
+    charges: &mut [Range],
+    driven: &mut [Range],
+    out: &mut [Range],
+    lower: &mut [Level],
+    upper: &mut [Level],
+)
+    requires island { IsIsland shape.now (length own.now) charges.old }
+    requires conduction { length on.now ≡ length shape.now.links }
+    requires driven_nets { length driven.old ≡ length own.now }
+    requires out_nets { length out.old ≡ length own.now }
+    requires lower_nets { length lower.old ≡ length own.now }
+    requires upper_nets { length upper.old ≡ length own.now }
+    ensures driven { driven.new ≡ driven_signals shape.now on.now own.now }
+    ensures signals { out.new ≡ island_signals shape.now on.now own.now charges.old }
+    ensures charges { charges.new ≡ charges_left shape.now.charge charges.old out.new }
+{
+    let links = shape.links.as_slice();
+    let levels = shape.charge.as_slice();
+    settle_both(lower, upper, links, on, own);
+    drive(driven, lower, upper);
+    charge_signals(out, shape.kinds.as_slice(), levels, own, charges, driven);
+    settle_both(lower, upper, links, on, out);
+    choose(out, driven, lower, upper);
+    keep_charges(charges, levels, out);
 }

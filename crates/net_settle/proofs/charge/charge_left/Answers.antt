@@ -1,9 +1,22 @@
-use Rattle.std.proofs.Common.{rules}
+use Rattle.std.proofs.Common.{ap, sym, ◌∙◌, subst}
+use Rattle.std.specs.Prelude.{ℤ, ◌≤ℤ◌}
+use Rattle.level_range.specs.Signal.{Signal}
+use Rattle.net_settle.specs.Charges.{charge_bound}
 use Rattle.net_settle.proofs.ChargeBounds.{charge_bound-order, charge_left-some}
 use Rattle.net_settle.proofs.charge.charge_left.Goals as goal
 
 pub signal-requires : goal.signal-requires
-signal-requires c = let h = c.charge_bound-lower.ensures in let k = c.new.ensures in let i = c.settled.invariant in let v = c.settled.view_is in ?
+signal-requires c =
+    let low = c.charge_bound-lower.ensures ∙ ap (charge_bound c.args.strength) c.bound.ensures.value in
+    let high = c.charge_bound-upper.ensures ∙ ap (charge_bound c.args.strength) c.bound-2.ensures.value in
+    subst (λ x. x ≤ℤ c.charge_bound-upper.result) (sym low)
+    (subst (λ x. charge_bound c.args.strength c.args.settled.lo ≤ℤ x) (sym high)
+        (charge_bound-order c.args.strength c.args.settled.lo c.args.settled.hi c.bound.ensures.signal.order))
 
 pub returns : goal.returns
-returns c = ?
+returns c =
+    let of : ℤ → ℤ → Signal = λ x y. record { lo = x; hi = y } in
+    let low = c.charge_bound-lower.ensures ∙ ap (charge_bound c.args.strength) c.bound.ensures.value in
+    let high = c.charge_bound-upper.ensures ∙ ap (charge_bound c.args.strength) c.bound-2.ensures.value in
+    c.signal.ensures ∙ ap (λ x. of x c.charge_bound-upper.result) low ∙ ap (of (charge_bound c.args.strength c.args.settled.lo)) high
+    ∙ sym (charge_left-some c.args.strength c.args.charge c.args.settled c.if-strength-eq0.false)
