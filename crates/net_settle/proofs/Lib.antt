@@ -8,3 +8,4 @@ pub mod Signals
 pub mod SameSignal
 pub mod ChargeBounds
 pub mod Listed
+pub mod Alone

@@ -1,4 +1,4 @@
-ghost use Rattle.std.specs.Prelude.{◌≡◌, ◌≤◌, ◌<◌, ◌≤ℤ◌, ℕ, length, zip, List, All};
+ghost use Rattle.std.specs.Prelude.{◌≡◌, ◌≤◌, ◌≤ℤ◌, ℕ, length, zip, [], All};
 ghost use Rattle.level_range.specs.Signal.{Signal};
 ghost use Rattle.net_settle.specs.Bounds.{at, bounds_of};
 ghost use Rattle.net_settle.specs.Settling.{IsSettled, AreSettled};
@@ -109,12 +109,14 @@ fn settle_lists(
     requires conduction { length on.now ≡ length shape.now.links }
     requires driven_nets { length driven.old ≡ length own.now }
     requires out_nets { length out.old ≡ length own.now }
-    requires lower_nets { length lower.old ≡ length own.now }
-    requires upper_nets { length upper.old ≡ length own.now }
+    requires lower_nets { length own.now ≤ length lower.old }
+    requires upper_nets { length own.now ≤ length upper.old }
     ensures driven { driven.new ≡ driven_signals shape.now on.now own.now }
     ensures signals { out.new ≡ island_signals shape.now on.now own.now charges.old }
     ensures charges { charges.new ≡ charges_left shape.now.charge charges.old out.new }
 {
+    let lower = &mut lower[..own.len()];
+    let upper = &mut upper[..own.len()];
     let links = shape.links.as_slice();
     let levels = shape.charge.as_slice();
     settle_both(lower, upper, links, on, own);
@@ -123,4 +125,72 @@ fn settle_lists(
     settle_both(lower, upper, links, on, out);
     choose(out, driven, lower, upper);
     keep_charges(charges, levels, out);
+}
+
+/// Settles an island of one net without links, whose lists have one place. Such a net has its own signal.
+fn settle_alone(
+    shape: &Shape,
+    own: &[Range],
+    on: &[Conduct],
+    charges: &mut [Range],
+    driven: &mut [Range],
+    out: &mut [Range],
+)
+    requires island { IsIsland shape.now 1 charges.old }
+    requires links { shape.now.links ≡ [] }
+    requires own { length own.now ≡ 1 }
+    requires driven_nets { length driven.old ≡ 1 }
+    requires out_nets { length out.old ≡ 1 }
+    ensures driven { driven.new ≡ driven_signals shape.now on.now own.now }
+    ensures signals { out.new ≡ island_signals shape.now on.now own.now charges.old }
+    ensures charges { charges.new ≡ charges_left shape.now.charge charges.old out.new }
+{
+    let levels = shape.charge.as_slice();
+    driven[0] = own[0];
+    charge_signals(out, shape.kinds.as_slice(), levels, own, charges, driven);
+    let first = driven[0];
+    let second = out[0];
+    // A signal that is read is known to be one.
+    let _read = (first.lo, second.lo);
+    if excludes_zero(first) {
+        out[0] = first;
+    }
+    keep_charges(charges, levels, out);
+}
+
+/// Settles an island.
+///
+/// `own` has the own signals of the nets, those that their drivers and inputs give, and `on` says what each link does.
+/// `driven` gets the signals without charges, and `out` those with them: of a net whose driven signal excludes 0 the
+/// driven one, of any other the one that settles with the charges joined to the own signals. `charges` are those
+/// before, and get what becomes of them. No memory is taken.
+pub fn settle(
+    shape: &Shape,
+    own: &[Range],
+    on: &[Conduct],
+    charges: &mut [Range],
+    driven: &mut [Range],
+    out: &mut [Range],
+    scratch: &mut Scratch,
+)
+    requires { CanSettle shape.now own.now on.now charges.old driven.old out.old scratch.old }
+    ensures driven { driven.new ≡ driven_signals shape.now on.now own.now }
+    ensures signals { out.new ≡ island_signals shape.now on.now own.now charges.old }
+    ensures charges { charges.new ≡ charges_left shape.now.charge charges.old out.new }
+    ensures room { scratch.new ≡ scratch.old }
+{
+    if own.len() == 1 && shape.links.as_slice().is_empty() {
+        settle_alone(shape, own, on, charges, driven, out);
+        return;
+    }
+    settle_lists(
+        shape,
+        own,
+        on,
+        charges,
+        driven,
+        out,
+        scratch.lower.as_mut_slice(),
+        scratch.upper.as_mut_slice(),
+    );
 }

@@ -9,6 +9,7 @@ mod shape;
 mod side;
 mod spread;
 
+pub use island::settle;
 pub use scratch::Scratch;
 pub use shape::{KindList, LevelList, Link, LinkList, Shape};
 

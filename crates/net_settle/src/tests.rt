@@ -1,30 +1,21 @@
-ghost use Rattle.std.specs.Prelude.{◌≡◌};
-
-use crate::{KindList, LevelList, Link, LinkList, Shape};
-use level_range::Kind;
+use crate::{KindList, LevelList, Link, LinkList, Scratch, Shape, settle};
+use level_range::{Conduct, Kind, Range, percent_v};
+use std::alloc::{AllocError, Global};
 use std::process::Abort;
 use std::test::Fail;
 
-fn crosses<T: Send + Sync>(value: T) -> T
-    ensures { result ≡ value }
-{
-    value
+mod search;
+
+/// A shape of plain nets.
+fn plain(alloc: Global, levels: &[u8], links: &[Link]) -> Result<Shape, AllocError> {
+    Ok(Shape {
+        kinds: KindList::from_vec(vec![in alloc; Kind::Plain; levels.len()]?),
+        charge: LevelList::from_vec(levels.to_vec(alloc)?),
+        links: LinkList::from_vec(links.to_vec(alloc)?),
+    })
 }
 
-#[test]
-fn a_shape_may_be_shared(rt: HostRuntime) -> Result<(), Fail> {
-    let alloc = rt.alloc();
-    let link = Link {
-        a: 0,
-        b: 1,
-        resistive: true,
-    };
-    let shape = Shape {
-        kinds: KindList::from_vec(vec![in alloc; Kind::Plain, Kind::Plain]?),
-        charge: LevelList::from_vec(vec![in alloc; 0, 4]?),
-        links: LinkList::from_vec(vec![in alloc; link]?),
-    };
-    let shape = crosses(shape);
-    assert_eq!(rt; shape.links.as_slice(), [link].as_slice());
-    Ok(())
+/// Whether the lists are those of an island that can settle.
+fn fits(shape: &Shape, own: &[Range], on: &[Conduct], charges: &[Range]) -> bool {
+    true
 }
