@@ -53,13 +53,13 @@ module _ (links : List Link) (on : List Conduct) (own driven : List Signal) (fir
         out ≡ chosen_signals (settled (zip links on) own) (settled (zip links on) (charged_signals kinds levels own charges (settled (zip links on) own)))
     all_chosen out one_out here =
         chosen_signals-all own charged out (one_out ∙ sym one) (λ n lt.
-            let z : n ≡ 0 = omega arith in
-            let P : ℕ → Type 0 = λ i. get_or out i undriven ≡ chosen (signal_at own i) (signal_at charged i) in
-            subst P (sym z) here)
+        let z : n ≡ 0 = omega arith in
+        let P : ℕ → Type 0 = λ i. get_or out i undriven ≡ chosen (signal_at own i) (signal_at charged i) in
+        subst P (sym z) here)
         ∙ ap (λ d. chosen_signals d charged) (sym own_settled)
         ∙ ap (chosen_signals (settled (zip links on) own)) (sym charged_settled)
         ∙ ap (λ s. chosen_signals (settled (zip links on) own) (settled (zip links on) s))
-            (charged_is ∙ ap (charged_signals kinds levels own charges) alone-driven)
+        (charged_is ∙ ap (charged_signals kinds levels own charges) alone-driven)
 
     pub alone-excluded : (out : List Signal) → excludes_zero first ≡ true → out ≡ slice_set charged 0 first →
         out ≡ chosen_signals (settled (zip links on) own) (settled (zip links on) (charged_signals kinds levels own charges (settled (zip links on) own)))

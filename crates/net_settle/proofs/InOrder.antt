@@ -143,7 +143,6 @@ module _ (switches : List Switch) (own bounds : Side → List ℤ) (nets : ℕ)
     (own_most : (side : Side) (n : ℕ) → rank side (at (own side) n) ≤ 14)
     (ordered : (n : ℕ) → at (own Lower) n ≤ℤ at (own Upper) n)
     (settled : (side : Side) → IsSettled side switches (own side) (bounds side)) where
-
   own-before : {σ τ : Side} → Opposite σ τ → (n : ℕ) → Before σ (at (own σ) n) (at (own τ) n)
   own-before low n = ordered n
   own-before high n = ordered n
@@ -179,13 +178,16 @@ module _ (switches : List Switch) (own bounds : Side → List ℤ) (nets : ℕ)
       let ih = along q next o steps m c.2 (let s = c.3 in omega arith) walk in
       claim_at q next o n sign strong (reduced_level brings.link.resistive (at (bounds σ) m))
       (subst (λ (x : ℤ). Before σ (reduced_level brings.link.resistive (at (bounds σ) m)) x) (sym c.1) (reduced-before σ brings.link.resistive _ _ ih))
-      (settled-most σ switches (own σ) (bounds σ) (settled σ) n (inside o n sign) _ (inr (inr (m, record {
-        link = brings.link;
-        conduct = brings.conduct;
-        there = brings.there;
-        joins = brings.joins;
-        carries = ap (λ (k : Conduct). carried σ brings.link k (at (bounds σ) m)) c.0;
-      }))))
+      (settled-most σ switches (own σ) (bounds σ) (settled σ) n (inside o n sign) _ (inr (inr (
+        m,
+        record {
+          link = brings.link;
+          conduct = brings.conduct;
+          there = brings.there;
+          joins = brings.joins;
+          carries = ap (λ (k : Conduct). carried σ brings.link k (at (bounds σ) m)) c.0;
+        },
+      ))))
 
   claims : (k q : ℕ) → q + k ≡ 8 → Claim q
   unfolding Claim

@@ -71,12 +71,12 @@ settled_bounds-alone side own most =
 pub settled-alone : (own : List Signal) → All IsSignal own → settled [] own ≡ own
 settled-alone own signals =
     sym (
-      signals_between-all (bounds_of Lower own) (bounds_of Upper own) (length own) own refl
-          (λ n lt. same_signal (get_or own n undriven) _ _ (sym (bounds_of-at Lower own n)) (sym (bounds_of-at Upper own n)))
-      ∙ settled-between [] own (bounds_of Lower own) (bounds_of Upper own) (length own)
-          (sym (settled_bounds-alone Lower (bounds_of Lower own) (signals-most Lower own signals)))
-          (sym (settled_bounds-alone Upper (bounds_of Upper own) (signals-most Upper own signals)))
-          refl
+    signals_between-all (bounds_of Lower own) (bounds_of Upper own) (length own) own refl
+    (λ n lt. same_signal (get_or own n undriven) _ _ (sym (bounds_of-at Lower own n)) (sym (bounds_of-at Upper own n)))
+    ∙ settled-between [] own (bounds_of Lower own) (bounds_of Upper own) (length own)
+    (sym (settled_bounds-alone Lower (bounds_of Lower own) (signals-most Lower own signals)))
+    (sym (settled_bounds-alone Upper (bounds_of Upper own) (signals-most Upper own signals)))
+    refl
     )
 
 -- lists of one signal

@@ -148,7 +148,6 @@ rank-reduced side resistive v = by_sign side resistive v (signed side v)
         let b = rank-opposed side (suc n) (omega arith) in
         rw (reduced-opposed side resistive n) (omega arith)
 
-
 pub rank-carried : (side : Side) (link : Link) (conduct : Conduct) (v : ℤ) → rank side (carried side link conduct v) ≤ rank side v
 rank-carried side link On v = rank-reduced side link.resistive v
 rank-carried side link Off v = let z = rank-none side in omega arith

@@ -168,17 +168,20 @@ module _ (side : Side) (switches : List Switch) (own : List ℤ) where
       let back = taken v link.a (fro there) there in
       let rest = carried-moves r v part (λ s h. inside s (Contains-append_right ((link, conduct) ∷ []) part s h)) back second.0 level in
       let two = moves-then (TakesNone v link.b to) (TakesNone v link.a fro)
-          (λ b. TakesNone v link.b to b × TakesNone v link.a fro b) bounds there back (λ b x y. (x, y)) first.1 second.1 in
+      (λ b. TakesNone v link.b to b × TakesNone v link.a fro b) bounds there back (λ b x y. (x, y)) first.1 second.1 in
       (rest.0, moves-then (λ b. TakesNone v link.b to b × TakesNone v link.a fro b) (CarriedIdle v part) (CarriedIdle v ((link, conduct) ∷ part)) bounds back _ both two rest.1)
     where
       offers : (b : List ℤ) (m n : ℕ) → Joins link m n → carried side link conduct (at b m) ≡ v → Offered side switches own b n v
-      offers b m n joins e = inr (m, record {
-        link = link;
-        conduct = conduct;
-        there = inside (link, conduct) (0, omega arith, refl);
-        joins = joins;
-        carries = e;
-      })
+      offers b m n joins e = inr (
+        m,
+        record {
+          link = link;
+          conduct = conduct;
+          there = inside (link, conduct) (0, omega arith, refl);
+          joins = joins;
+          carries = e;
+        },
+      )
 
       here : (b : List ℤ) → TakesNone v link.b (λ b. carried side link conduct (at b link.a)) b →
           TakesNone v link.a (λ b. carried side link conduct (at b link.b)) b → (m n : ℕ) → n < length own → at b n ≡ pos 0 →
@@ -223,10 +226,13 @@ module _ (side : Side) (switches : List Switch) (own : List ℤ) where
   rounds-idle : (r : ℕ) (v : ℤ) (k : ℕ) (bounds : List ℤ) → without bounds ≤ k → IsDone side switches own (suc r) bounds → rank side v ≡ suc r →
       IsDone side switches own (suc r) (rounds side v switches own k bounds) × IsIdle side switches own (rounds side v switches own k bounds) v
   unfolding round Idle Falls
-  rounds-idle r v zero bounds few done level = (done, record {
-    owned = λ n lt none. absurd (without-none bounds (omega arith) n (let k = done.nets in omega arith) none);
-    brought = λ link conduct m n there joins lt none. absurd (without-none bounds (omega arith) n (let k = done.nets in omega arith) none);
-  })
+  rounds-idle r v zero bounds few done level = (
+    done,
+    record {
+      owned = λ n lt none. absurd (without-none bounds (omega arith) n (let k = done.nets in omega arith) none);
+      brought = λ link conduct m n there joins lt none. absurd (without-none bounds (omega arith) n (let k = done.nets in omega arith) none);
+    },
+  )
   rounds-idle r v (suc k) bounds few done level =
       let next = round-moves r v bounds done level in
       elim next.1 [

@@ -44,7 +44,7 @@ pub signal_is : (own : List Signal) → All IsSignal own → (n : ℕ) → IsSig
 signal_is own signals n = elim (cases_lt n (length own)) [
   | inl lt ↦ signals n undriven lt
   | inr ge ↦ subst IsSignal (sym (get_or_past own n undriven ge))
-      record { low = omega (arith, ints); order = omega (arith, ints); high = omega (arith, ints); }
+      record { low = omega (arith, ints); order = omega (arith, ints); high = omega (arith, ints) }
 ]
 
 pub signals-most : (side : Side) (own : List Signal) → All IsSignal own → (n : ℕ) → rank side (at (bounds_of side own) n) ≤ 14
@@ -65,7 +65,7 @@ both_in_order switches own lower upper signals low high =
     (λ side. length-bounds_of side own)
     (λ side. signals-most side own signals)
     (λ n. subst (λ x. x ≤ℤ at (bounds_of Upper own) n) (sym (bounds_of-at Lower own n))
-        (subst (λ x. (signal_at own n).lo ≤ℤ x) (sym (bounds_of-at Upper own n)) (signal_is own signals n).order))
+    (subst (λ x. (signal_at own n).lo ≤ℤ x) (sym (bounds_of-at Upper own n)) (signal_is own signals n).order))
     settled_side
   where
     settled_side : (side : Side) → IsSettled side switches (bounds_of side own) (by_side lower upper side)

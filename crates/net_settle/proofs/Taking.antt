@@ -63,8 +63,8 @@ taken-grows v n comes bounds some h k none = elim (taken_cases v n comes bounds)
 -- what holds while nets take the level that is their own bound
 pub record OwnTaken (side : Side) (v : ℤ) (own initial bounds : List ℤ) (n : ℕ) : Type 0 where
   pub done :
-    (switches : List Switch) (r : ℕ) → rank side v ≡ suc r → IsDone side switches own (suc r) initial
-    → IsDone side switches own (suc r) bounds
+      (switches : List Switch) (r : ℕ) → rank side v ≡ suc r → IsDone side switches own (suc r) initial
+      → IsDone side switches own (suc r) bounds
   pub rests : (k : ℕ) → k < n → at bounds k ≡ pos 0 → at own k ≢ v
 
 pub own_taken_none : (side : Side) (v : ℤ) (own bounds : List ℤ) → OwnTaken side v own bounds bounds 0
@@ -108,15 +108,18 @@ taken-spreads side switches v link conduct m n bounds there joins some inside =
     let comes = carried side link conduct (at bounds m) in
     record {
       nets = length-taken v n comes bounds;
-          grows = λ k none. taken-grows v n comes bounds some inside k none;
+      grows = λ k none. taken-grows v n comes bounds some inside k none;
       keeps = λ own r level done.
-          (taken-moves side switches own r v n (λ b. carried side link conduct (at b m)) bounds done level (λ e. inr (m, record {
-            link = link;
-            conduct = conduct;
-            there = there;
-            joins = joins;
-            carries = e;
-          }))).0;
+          (taken-moves side switches own r v n (λ b. carried side link conduct (at b m)) bounds done level (λ e. inr (
+            m,
+            record {
+              link = link;
+              conduct = conduct;
+              there = there;
+              joins = joins;
+              carries = e;
+            },
+          ))).0;
     }
 
 module _ (side : Side) (v : ℤ) (link : Link) (conduct : Conduct) (before there after : List ℤ)
@@ -130,9 +133,9 @@ module _ (side : Side) (v : ℤ) (link : Link) (conduct : Conduct) (before there
   link-spreads switches contains =
       spreads-then side switches v before there after
       (subst (λ (b : List ℤ). Spreads side switches v before b) (sym there_is)
-          (taken-spreads side switches v link conduct link.a link.b before contains (inl (refl, refl)) some b_inside))
+      (taken-spreads side switches v link conduct link.a link.b before contains (inl (refl, refl)) some b_inside))
       (subst (λ (b : List ℤ). Spreads side switches v there b) (sym after_is)
-          (taken-spreads side switches v link conduct link.b link.a there contains (inr (refl, refl)) some (let e = same_nets in omega arith)))
+      (taken-spreads side switches v link conduct link.b link.a there contains (inr (refl, refl)) some (let e = same_nets in omega arith)))
 
   -- a net took it on the way there
   pub link-moves_there :
@@ -147,7 +150,7 @@ module _ (side : Side) (v : ℤ) (link : Link) (conduct : Conduct) (before there
       fewer = elim (taken_cases v link.a (carried side link conduct (at there link.b)) there) [
         | inl (none, _, e) ↦
             let h : without after < without there = subst (λ (b : List ℤ). without b < without there) (sym (after_is ∙ e))
-                (without-set there link.a v (let k = same_nets in omega arith) none some) in
+            (without-set there link.a v (let k = same_nets in omega arith) none some) in
             omega arith
         | inr (_, e) ↦ let h : without after ≡ without there = ap without (after_is ∙ e) in omega arith
       ]
@@ -160,7 +163,7 @@ module _ (side : Side) (v : ℤ) (link : Link) (conduct : Conduct) (before there
       let s : there ≡ before = there_is ∙ taken-stays v link.b _ before rests in
       let e = after_is ∙ taken-takes v link.a _ there none is in
       let f : without after < without there = subst (λ (b : List ℤ). without b < without there) (sym e)
-          (without-set there link.a v (let k = same_nets in omega arith) none some) in
+      (without-set there link.a v (let k = same_nets in omega arith) none some) in
       let g : without there ≡ without before = ap without s in
       omega arith
   link-moves_back false rests back =

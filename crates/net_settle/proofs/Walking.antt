@@ -64,10 +64,10 @@ module _ (side : Side) (links : List Link) (on : List Conduct) (v : ℤ) (backwa
   pub record Walked (after : List ℤ) (changed : Bool) (passed : ℕ) : Type 0 where
     pub spreads : Spreads side (zip links on) v before after
     pub moves :
-      Moves changed
-      ((k : ℕ) (d : Link) (e : Conduct) → k < length links → Passed backwards (length links) passed k
+        Moves changed
+        ((k : ℕ) (d : Link) (e : Conduct) → k < length links → Passed backwards (length links) passed k
         → LinkRests side (get_or links k d) (get_or on k e) before v)
-      before after
+        before after
 
   pub walked_none : Walked before false 0
   walked_none = record {
@@ -92,8 +92,8 @@ module _ (side : Side) (links : List Link) (on : List Conduct) (v : ℤ) (backwa
     spreads_on =
         spreads-then side (zip links on) v before between after walked.spreads
         (spreads (zip links on) (switch_at links on place (get_or links place dl) (get_or on place dc) inside (let h = inside in omega arith)
-            (get_or_default links place dl (get_or links place dl) inside)
-            (get_or_default on place dc (get_or on place dc) (let h = inside in omega arith))))
+        (get_or_default links place dl (get_or links place dl) inside)
+        (get_or_default on place dc (get_or on place dc) (let h = inside in omega arith))))
 
     pub walked_took : without after < without between → Walked after true (passed + 1)
     walked_took fewer = record {
@@ -120,9 +120,9 @@ module _ (side : Side) (links : List Link) (on : List Conduct) (v : ℤ) (backwa
             | inr now ↦
                 let is : k ≡ place = now ∙ sym place_is in
                 let lk : get_or links place dl ≡ get_or links k d =
-                    ap (λ i. get_or links i dl) (sym is) ∙ get_or_default links k dl d lt in
+                ap (λ i. get_or links i dl) (sym is) ∙ get_or_default links k dl d lt in
                 let ck : get_or on place dc ≡ get_or on k x =
-                    ap (λ i. get_or on i dc) (sym is) ∙ get_or_default on k dc x (omega arith) in
+                ap (λ i. get_or on i dc) (sym is) ∙ get_or_default on k dc x (omega arith) in
                 let r0 = subst (λ (b : List ℤ). LinkRests side (get_or links place dl) (get_or on place dc) b v) h.0 rests in
                 let r1 = subst (λ (l : Link). LinkRests side l (get_or on place dc) before v) lk r0 in
                 subst (λ (c : Conduct). LinkRests side (get_or links k d) c before v) ck r1

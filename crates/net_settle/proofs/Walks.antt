@@ -28,9 +28,9 @@ module _ (side : Side) (switches : List Switch) (own : List ℤ) where
   passes bounds i v none (suc steps) n some (m, brings, walk) =
       let ne : n ≢ i = λ (k : n ≡ i). some (ap (at bounds) k ∙ none) in
       let from : at bounds m ≢ pos 0 = λ (k : at bounds m ≡ pos 0).
-          some (sym brings.carries ∙ ap (carried side brings.link brings.conduct) k ∙ carried-none side brings.link brings.conduct) in
-      let nf : m ≢ i = λ (k : m ≡ i). from (ap (at bounds) k ∙ none) in
-      (m,
+      some (sym brings.carries ∙ ap (carried side brings.link brings.conduct) k ∙ carried-none side brings.link brings.conduct) in
+      let nf : m ≢ i = λ (k : m ≡ i). from (ap (at bounds) k ∙ none) in (
+        m,
         record {
           link = brings.link;
           conduct = brings.conduct;
@@ -38,7 +38,8 @@ module _ (side : Side) (switches : List Switch) (own : List ℤ) where
           joins = brings.joins;
           carries = ap (carried side brings.link brings.conduct) (at-other bounds i m v nf) ∙ brings.carries ∙ sym (at-other bounds i n v ne);
         },
-        passes bounds i v none steps m from walk)
+        passes bounds i v none steps m from walk,
+      )
 
   -- a level comes to a net from its own signal, or over a switch from a net with a bound
   abbrev pub Offered : List ℤ → ℕ → ℤ → Type 0
@@ -65,7 +66,7 @@ module _ (side : Side) (switches : List Switch) (own : List ℤ) where
     brought = λ link conduct m k there joins in_range lt. elim (cases_eq m n) [
       | inl e ↦
           let f : at (slice_set bounds n v) m ≡ v = ap (at (slice_set bounds n v)) e ∙ here in
-          let w = rank-carried side link conduct (at (slice_set bounds n v)  m) in
+          let w = rank-carried side link conduct (at (slice_set bounds n v) m) in
           let g : rank side (at (slice_set bounds n v) m) ≡ rank side v = ap (rank side) f in
           absurd (omega arith)
       | inr nm ↦
@@ -99,13 +100,14 @@ module _ (side : Side) (switches : List Switch) (own : List ℤ) where
         | inr (m, brings) ↦
             let z = rank-none side in
             let some : at bounds m ≢ pos 0 = λ (k : at bounds m ≡ pos 0).
-                let e : v ≡ pos 0 = sym brings.carries ∙ ap (carried side brings.link brings.conduct) k ∙ carried-none side brings.link brings.conduct in
-                let f : rank side v ≡ rank side (pos 0) = ap (rank side) e in
-                absurd (omega arith) in
+            let e : v ≡ pos 0 = sym brings.carries ∙ ap (carried side brings.link brings.conduct) k ∙ carried-none side brings.link brings.conduct in
+            let f : rank side v ≡ rank side (pos 0) = ap (rank side) e in
+            absurd (omega arith) in
             let ne : m ≢ n = λ (k : m ≡ n). some (ap (at bounds) k ∙ none) in
-            let walk = done.source m some in
-            (suc walk.0,
-              (m,
+            let walk = done.source m some in (
+              suc walk.0,
+              (
+                m,
                 record {
                   link = brings.link;
                   conduct = brings.conduct;
@@ -113,15 +115,17 @@ module _ (side : Side) (switches : List Switch) (own : List ℤ) where
                   joins = brings.joins;
                   carries = ap (carried side brings.link brings.conduct) (at-other bounds n m v ne) ∙ brings.carries ∙ sym here;
                 },
-                passes bounds n v none walk.0 m some walk.1))
+                passes bounds n v none walk.0 m some walk.1,
+              ),
+            )
       ]
 
   -- no net without a bound is offered the level
   pub record IsIdle (bounds : List ℤ) (v : ℤ) : Type 0 where
     pub owned : (n : ℕ) → n < length own → at bounds n ≡ pos 0 → at own n ≢ v
     pub brought :
-      (link : Link) (conduct : Conduct) (m n : ℕ) → Contains switches (link, conduct) → Joins link m n → n < length own
-      → at bounds n ≡ pos 0 → carried side link conduct (at bounds m) ≢ v
+        (link : Link) (conduct : Conduct) (m n : ℕ) → Contains switches (link, conduct) → Joins link m n → n < length own
+        → at bounds n ≡ pos 0 → carried side link conduct (at bounds m) ≢ v
 
   -- where no net takes a level any more it is finished
   pub finishes : (r : ℕ) (bounds : List ℤ) (v : ℤ) → IsDone side switches own (suc r) bounds → rank side v ≡ suc r → IsIdle bounds v → IsDone side switches own r bounds
@@ -194,7 +198,7 @@ module _ (side : Side) (switches : List Switch) (own : List ℤ) where
       most n inside u (inr (inl e)) = above_none (at bounds n) u (subst (λ (w : ℤ). 0 < rank side w → rank side w ≤ rank side (at bounds n)) (sym e) (done.owned n inside))
       most n inside u (inr (inr (m, brings))) =
           above_none (at bounds n) u (subst (λ (w : ℤ). 0 < rank side w → rank side w ≤ rank side (at bounds n)) brings.carries
-              (done.brought brings.link brings.conduct m n brings.there brings.joins inside))
+          (done.brought brings.link brings.conduct m n brings.there brings.joins inside))
 
   -- finished bounds are no greater than the own ones
   walk-most : (most : ℕ) → ((n : ℕ) → rank side (at own n) ≤ most) → (bounds : List ℤ) (steps n : ℕ) →
@@ -236,7 +240,7 @@ module _ (side : Side) (switches : List Switch) (own : List ℤ) where
   ranked-inside : (q : ℕ) (a : List ℤ) → 0 < q → length a ≡ length own → (n : ℕ) → q ≤ rank side (at a n) → n < length own
   ranked-inside q a some nets n high =
       has_net a nets n (λ (k : at a n ≡ pos 0).
-          let z = rank-none side in let f : rank side (at a n) ≡ rank side (pos 0) = ap (rank side) k in absurd (omega arith))
+      let z = rank-none side in let f : rank side (at a n) ≡ rank side (pos 0) = ap (rank side) k in absurd (omega arith))
 
   -- along a walk over bounds of rank q and more, another settled list has the same bounds
   follows : (q : ℕ) (a b : List ℤ) → 0 < q → IsSettled side switches own a → IsSettled side switches own b → Agree q a b → Agree q b a →
@@ -251,13 +255,16 @@ module _ (side : Side) (switches : List Switch) (own : List ℤ) where
       let f : rank side (carried side brings.link brings.conduct (at a m)) ≡ rank side (at a n) = ap (rank side) brings.carries in
       let same = follows q a b some sa sb ab ba steps m (omega arith) walk in
       same_from_le q a b ab ba n high
-      (settled-most b sb n inside (at a n) (inr (inr (m, record {
-        link = brings.link;
-        conduct = brings.conduct;
-        there = brings.there;
-        joins = brings.joins;
-        carries = ap (carried side brings.link brings.conduct) (sym same) ∙ brings.carries;
-      }))))
+      (settled-most b sb n inside (at a n) (inr (inr (
+        m,
+        record {
+          link = brings.link;
+          conduct = brings.conduct;
+          there = brings.there;
+          joins = brings.joins;
+          carries = ap (carried side brings.link brings.conduct) (sym same) ∙ brings.carries;
+        },
+      ))))
 
   agree : (most : ℕ) → ((n : ℕ) → rank side (at own n) ≤ most) → (a b : List ℤ) → IsSettled side switches own a → IsSettled side switches own b →
       (k q : ℕ) → q + k ≡ most → Agree q a b × Agree q b a
@@ -270,12 +277,12 @@ module _ (side : Side) (switches : List Switch) (own : List ℤ) where
       let next = agree most own_most a b sa sb k (suc q) (omega arith) in (
         λ n lt.
             let some : at a n ≢ pos 0 = λ (k : at a n ≡ pos 0).
-                let z = rank-none side in let f : rank side (at a n) ≡ rank side (pos 0) = ap (rank side) k in absurd (omega arith) in
+            let z = rank-none side in let f : rank side (at a n) ≡ rank side (pos 0) = ap (rank side) k in absurd (omega arith) in
             let walk = sa.source n (has_net a sa.nets n some) some in
             follows (suc q) a b (omega arith) sa sb next.0 next.1 walk.0 n (omega arith) walk.1,
         λ n lt.
             let some : at b n ≢ pos 0 = λ (k : at b n ≡ pos 0).
-                let z = rank-none side in let f : rank side (at b n) ≡ rank side (pos 0) = ap (rank side) k in absurd (omega arith) in
+            let z = rank-none side in let f : rank side (at b n) ≡ rank side (pos 0) = ap (rank side) k in absurd (omega arith) in
             let walk = sb.source n (has_net b sb.nets n some) some in
             follows (suc q) b a (omega arith) sb sa next.1 next.0 walk.0 n (omega arith) walk.1,
       )
@@ -296,8 +303,8 @@ module _ (side : Side) (switches : List Switch) (own : List ℤ) where
   settled_once most own_most a b sa sb =
       let both = agree most own_most a b sa sb most 0 (omega arith) in
       same_lists a b (sa.nets ∙ sym sb.nets) (λ k d lt.
-          get_or_default a k d (pos 0) lt ∙ same_at a b both.0 both.1 k
-          ∙ sym (get_or_default b k d (pos 0) (let e = sa.nets in let f = sb.nets in omega arith)))
+      get_or_default a k d (pos 0) lt ∙ same_at a b both.0 both.1 k
+      ∙ sym (get_or_default b k d (pos 0) (let e = sa.nets in let f = sb.nets in omega arith)))
 
   -- at first no net has a bound
   pub starts : (r : ℕ) → ((n : ℕ) → rank side (at own n) ≤ r) → (bounds : List ℤ) → length bounds ≡ length own →

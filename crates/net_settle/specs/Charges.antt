@@ -62,7 +62,7 @@ driven_signals shape on own = settled (switches_of shape on) own
 unfoldable pub charged_signals : List Kind → List ℕ → List Signal → List Signal → List Signal → List Signal
 charged_signals kinds levels own charges driven =
     map (λ n. joined (slice_index_or kinds n Plain) (signal_at own n)
-        (contribution (slice_index_or levels n 0) (signal_at charges n) (signal_at driven n)))
+    (contribution (slice_index_or levels n 0) (signal_at charges n) (signal_at driven n)))
     (range_with_len 0 (length own))
 
 -- of two settled signals the driven one where it excludes 0

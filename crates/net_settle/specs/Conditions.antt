@@ -35,10 +35,8 @@ pub record IsIsland (shape : Shape) (nets : ℕ) (charges : List Signal) : Type 
   pub kinds : length shape.kinds ≡ nets
   pub levels : length shape.charge ≡ nets
   pub ends : EndsWithin nets shape.links
-  pub wired : WiredAlone shape
   pub strengths : All IsChargeLevel shape.charge
   pub charge_nets : length charges ≡ nets
-  pub charged : AreCharges shape.charge charges
 
 -- the lists that are given to `settle`, and the room of its scratch
 pub record CanSettle (shape : Shape) (own : List Signal) (on : List Conduct) (charges driven signals : List Signal) (room : ℕ) : Type 0 where

@@ -29,8 +29,8 @@ pub record IsDone (side : Side) (switches : List Switch) (own : List ℤ) (r : �
   pub above : (n : ℕ) → at bounds n ≢ pos 0 → r ≤ rank side (at bounds n)
   pub owned : (n : ℕ) → n < length own → r < rank side (at own n) → rank side (at own n) ≤ rank side (at bounds n)
   pub brought :
-    (link : Link) (conduct : Conduct) (m n : ℕ) → Contains switches (link, conduct) → Joins link m n → n < length own
-    → r < rank side (carried side link conduct (at bounds m)) → rank side (carried side link conduct (at bounds m)) ≤ rank side (at bounds n)
+      (link : Link) (conduct : Conduct) (m n : ℕ) → Contains switches (link, conduct) → Joins link m n → n < length own
+      → r < rank side (carried side link conduct (at bounds m)) → rank side (carried side link conduct (at bounds m)) ≤ rank side (at bounds n)
   pub source : (n : ℕ) → at bounds n ≢ pos 0 → (steps : ℕ) × IsWalk side switches own bounds steps n
 
 -- no net without a bound has the level as its own bound
@@ -57,8 +57,8 @@ pub record Spreads (side : Side) (switches : List Switch) (v : ℤ) (before afte
   pub nets : length after ≡ length before
   pub grows : (n : ℕ) → at after n ≡ pos 0 → at before n ≡ pos 0
   pub keeps :
-    (own : List ℤ) (r : ℕ) → rank side v ≡ suc r → IsDone side switches own (suc r) before
-    → IsDone side switches own (suc r) after
+      (own : List ℤ) (r : ℕ) → rank side v ≡ suc r → IsDone side switches own (suc r) before
+      → IsDone side switches own (suc r) after
 
 -- where something changed fewer nets have no bound, else a fact holds
 abbrev pub Moves : Bool → Type 0 → List ℤ → List ℤ → Type 0

@@ -41,8 +41,8 @@ pub record IsSettled (side : Side) (switches : List Switch) (own bounds : List �
   pub nets : length bounds ≡ length own
   pub best : (n : ℕ) → n < length own → IsBest side switches own bounds n (at bounds n)
   pub source :
-    (n : ℕ) → n < length own → ¬ (at bounds n ≡ pos 0)
-    → (steps : ℕ) × IsWalk side switches own bounds steps n
+      (n : ℕ) → n < length own → ¬ (at bounds n ≡ pos 0)
+      → (steps : ℕ) × IsWalk side switches own bounds steps n
 
 -- the signals of the nets of an island whose own signals are given go from finished lower to finished upper bounds
 pub record AreSettled (switches : List Switch) (own signals : List Signal) : Type 0 where

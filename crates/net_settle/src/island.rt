@@ -15,7 +15,13 @@ use crate::spread::settle_bounds;
 use level_range::{Conduct, Kind, Range, join};
 
 /// The finished bounds of both sides.
-fn settle_both(lower: &mut [Level], upper: &mut [Level], links: &[Link], on: &[Conduct], own: &[Range])
+fn settle_both(
+    lower: &mut [Level],
+    upper: &mut [Level],
+    links: &[Link],
+    on: &[Conduct],
+    own: &[Range],
+)
     requires lower { length own.now ≡ length lower.old }
     requires upper { length own.now ≡ length upper.old }
     requires conduction { length on.now ≡ length links.now }

@@ -31,11 +31,9 @@ fn take(bounds: &mut [Level], net: usize, comes: Level, level: Level) -> bool
 fn take_own(bounds: &mut [Level], own: &[Range], level: Level, side: Side)
     requires nets { length own.now ≡ length bounds.old }
     requires some { level ≢ pos 0 }
-    ensures spreads {
-        (switches : List Switch) (r : ℕ) → rank side level ≡ suc r
+    ensures spreads { (switches : List Switch) (r : ℕ) → rank side level ≡ suc r
         → IsDone side switches (bounds_of side own.now) (suc r) bounds.old
-        → IsDone side switches (bounds_of side own.now) (suc r) bounds.new
-    }
+        → IsDone side switches (bounds_of side own.now) (suc r) bounds.new }
     ensures rests { OwnRests (bounds_of side own.now) bounds.new level }
 {
     for net in 0..bounds.len() {
@@ -44,7 +42,13 @@ fn take_own(bounds: &mut [Level], own: &[Range], level: Level, side: Side)
 }
 
 /// Gives the level to the nets at the ends of a link, where the link carries it. Answers whether one took it.
-fn take_carried(bounds: &mut [Level], link: Link, conduct: Conduct, level: Level, side: Side) -> bool
+fn take_carried(
+    bounds: &mut [Level],
+    link: Link,
+    conduct: Conduct,
+    level: Level,
+    side: Side,
+) -> bool
     requires first { link.a < length bounds.old }
     requires second { link.b < length bounds.old }
     requires some { level ≢ pos 0 }
@@ -62,7 +66,14 @@ fn take_carried(bounds: &mut [Level], link: Link, conduct: Conduct, level: Level
 
 /// Goes once over the links, from the first to the last or back, and gives the level to the nets to which one carries
 /// it. Answers whether a net took it.
-fn walk(bounds: &mut [Level], links: &[Link], on: &[Conduct], level: Level, side: Side, backwards: bool) -> bool
+fn walk(
+    bounds: &mut [Level],
+    links: &[Link],
+    on: &[Conduct],
+    level: Level,
+    side: Side,
+    backwards: bool,
+) -> bool
     requires conduction { length on.now ≡ length links.now }
     requires ends { EndsWithin (length bounds.old) links.now }
     requires some { level ≢ pos 0 }
@@ -72,7 +83,11 @@ fn walk(bounds: &mut [Level], links: &[Link], on: &[Conduct], level: Level, side
     let mut changed = false;
     let count = links.len();
     for passed in 0..count {
-        let at = if backwards { count - 1 - passed } else { passed };
+        let at = if backwards {
+            count - 1 - passed
+        } else {
+            passed
+        };
         let took = take_carried(bounds, links[at], on[at], level, side);
         if took {
             changed = true;
@@ -82,16 +97,21 @@ fn walk(bounds: &mut [Level], links: &[Link], on: &[Conduct], level: Level, side
 }
 
 /// Gives the level to the nets without a bound to which it comes, until it comes to none.
-fn spread(bounds: &mut [Level], links: &[Link], on: &[Conduct], own: &[Range], level: Level, side: Side)
+fn spread(
+    bounds: &mut [Level],
+    links: &[Link],
+    on: &[Conduct],
+    own: &[Range],
+    level: Level,
+    side: Side,
+)
     requires nets { length own.now ≡ length bounds.old }
     requires conduction { length on.now ≡ length links.now }
     requires ends { EndsWithin (length bounds.old) links.now }
     requires some { level ≢ pos 0 }
-    ensures finishes {
-        (r : ℕ) → rank side level ≡ suc r
+    ensures finishes { (r : ℕ) → rank side level ≡ suc r
         → IsDone side (zip links.now on.now) (bounds_of side own.now) (suc r) bounds.old
-        → IsDone side (zip links.now on.now) (bounds_of side own.now) r bounds.new
-    }
+        → IsDone side (zip links.now on.now) (bounds_of side own.now) r bounds.new }
 {
     take_own(bounds, own, level, side);
     let mut backwards = false;
@@ -113,7 +133,13 @@ fn clear(bounds: &mut [Level], own: &[Range])
 }
 
 /// The finished bounds of nets whose own signals are given.
-pub fn settle_bounds(bounds: &mut [Level], links: &[Link], on: &[Conduct], own: &[Range], side: Side)
+pub fn settle_bounds(
+    bounds: &mut [Level],
+    links: &[Link],
+    on: &[Conduct],
+    own: &[Range],
+    side: Side,
+)
     requires nets { length own.now ≡ length bounds.old }
     requires conduction { length on.now ≡ length links.now }
     requires ends { EndsWithin (length bounds.old) links.now }

@@ -11,7 +11,7 @@ signal-requires c =
     let high = c.charge_bound-upper.ensures ∙ ap (charge_bound c.args.strength) c.bound-2.ensures.value in
     subst (λ x. x ≤ℤ c.charge_bound-upper.result) (sym low)
     (subst (λ x. charge_bound c.args.strength c.args.settled.lo ≤ℤ x) (sym high)
-        (charge_bound-order c.args.strength c.args.settled.lo c.args.settled.hi c.bound.ensures.signal.order))
+    (charge_bound-order c.args.strength c.args.settled.lo c.args.settled.hi c.bound.ensures.signal.order))
 
 pub returns : goal.returns
 returns c =

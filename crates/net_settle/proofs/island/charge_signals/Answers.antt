@@ -15,18 +15,18 @@ loop-net-preserved c k d lt =
     let charge = c.index-charges-net.is ∙ get_or_default c.args.charges.now n c.index-charges-net.result undriven (omega arith) in
     let driven = c.index-driven-net.is ∙ get_or_default c.args.driven.now n c.index-driven-net.result undriven (omega arith) in
     let given =
-        c.contribution-given.ensures
-        ∙ ap (λ s. contribution (get_or c.args.levels.now n 0) s c.index-driven-net.result) charge
-        ∙ ap (contribution (get_or c.args.levels.now n 0) (signal_at c.args.charges.now n)) driven in
+    c.contribution-given.ensures
+    ∙ ap (λ s. contribution (get_or c.args.levels.now n 0) s c.index-driven-net.result) charge
+    ∙ ap (contribution (get_or c.args.levels.now n 0) (signal_at c.args.charges.now n)) driven in
     let here =
-        get_or-set_same c.loop-net.out n c.join.result d (omega arith) ∙ c.join.ensures.bounds
-        ∙ ap (λ s. joined (get_or c.args.kinds.now n Plain) s c.contribution-given.result) own
-        ∙ ap (joined (get_or c.args.kinds.now n Plain) (signal_at c.args.own.now n)) given in
+    get_or-set_same c.loop-net.out n c.join.result d (omega arith) ∙ c.join.ensures.bounds
+    ∙ ap (λ s. joined (get_or c.args.kinds.now n Plain) s c.contribution-given.result) own
+    ∙ ap (joined (get_or c.args.kinds.now n Plain) (signal_at c.args.own.now n)) given in
     elim (cases_eq k c.loop-net.net) [
       | inl e ↦
           let P : ℕ → Type 0 = λ i. get_or (slice_set c.loop-net.out n c.join.result) i d
-              ≡ joined (get_or c.args.kinds.now i Plain) (signal_at c.args.own.now i)
-              (contribution (get_or c.args.levels.now i 0) (signal_at c.args.charges.now i) (signal_at c.args.driven.now i)) in
+          ≡ joined (get_or c.args.kinds.now i Plain) (signal_at c.args.own.now i)
+          (contribution (get_or c.args.levels.now i 0) (signal_at c.args.charges.now i) (signal_at c.args.driven.now i)) in
           subst P (sym e) here
       | inr ne ↦ get_or-set_other c.loop-net.out c.loop-net.net k c.join.result d ne ∙ c.loop-net.invariant k d (omega arith)
     ]

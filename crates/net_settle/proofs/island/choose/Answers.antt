@@ -9,6 +9,6 @@ pub returns : goal.returns
 returns c =
     chosen_signals-all c.args.driven.now (signals_between c.args.lower.now c.args.upper.now (length c.args.out.now)) c.loop-net.out (omega arith)
     (λ n lt.
-        c.loop-net.invariant n undriven (omega arith)
-        ∙ ap (chosen (signal_at c.args.driven.now n))
-            (sym (signals_between-at c.args.lower.now c.args.upper.now (length c.args.out.now) n undriven (omega arith))))
+    c.loop-net.invariant n undriven (omega arith)
+    ∙ ap (chosen (signal_at c.args.driven.now n))
+    (sym (signals_between-at c.args.lower.now c.args.upper.now (length c.args.out.now) n undriven (omega arith))))

@@ -11,7 +11,7 @@ unfolding driven_signals
 returns-clause-driven c =
     c.drive.ensures
     ∙ settled-between (zip c.as_slice-links.result.now c.args.on.now) c.args.own.now c.settle_both.new.lower c.settle_both.new.upper (length c.args.driven.now)
-        c.settle_both.ensures.lower c.settle_both.ensures.upper c.requires.driven_nets
+    c.settle_both.ensures.lower c.settle_both.ensures.upper c.requires.driven_nets
     ∙ ap (λ l. settled (zip l c.args.on.now) c.args.own.now) c.as_slice-links.ensures
 
 pub returns-clause-signals : goal.returns-clause-signals
@@ -20,21 +20,21 @@ returns-clause-signals c =
     let switches = switches_of c.args.shape.now c.args.on.now in
     let read = zip c.as_slice-links.result.now c.args.on.now in
     let driven =
-        c.drive.ensures
-        ∙ settled-between read c.args.own.now c.settle_both.new.lower c.settle_both.new.upper (length c.args.driven.now)
-            c.settle_both.ensures.lower c.settle_both.ensures.upper c.requires.driven_nets
-        ∙ ap (λ l. settled (zip l c.args.on.now) c.args.own.now) c.as_slice-links.ensures in
+    c.drive.ensures
+    ∙ settled-between read c.args.own.now c.settle_both.new.lower c.settle_both.new.upper (length c.args.driven.now)
+    c.settle_both.ensures.lower c.settle_both.ensures.upper c.requires.driven_nets
+    ∙ ap (λ l. settled (zip l c.args.on.now) c.args.own.now) c.as_slice-links.ensures in
     let second =
-        settled-between read c.charge_signals.new.out c.settle_both-2.new.lower c.settle_both-2.new.upper (length c.charge_signals.new.out)
-            c.settle_both-2.ensures.lower c.settle_both-2.ensures.upper (omega arith)
-        ∙ ap (λ l. settled (zip l c.args.on.now) c.charge_signals.new.out) c.as_slice-links.ensures in
+    settled-between read c.charge_signals.new.out c.settle_both-2.new.lower c.settle_both-2.new.upper (length c.charge_signals.new.out)
+    c.settle_both-2.ensures.lower c.settle_both-2.ensures.upper (omega arith)
+    ∙ ap (λ l. settled (zip l c.args.on.now) c.charge_signals.new.out) c.as_slice-links.ensures in
     let kinds = c.args.shape.now.kinds in
     let levels = c.args.shape.now.charge in
     let charged : List Signal → List Signal = charged_signals kinds levels c.args.own.now c.args.charges.now in
     let charge =
-        c.charge_signals.ensures
-        ∙ ap (λ k. charged_signals k c.as_slice-levels.result.now c.args.own.now c.args.charges.now c.drive.new.driven) c.as_slice.ensures
-        ∙ ap (λ l. charged_signals kinds l c.args.own.now c.args.charges.now c.drive.new.driven) c.as_slice-levels.ensures in
+    c.charge_signals.ensures
+    ∙ ap (λ k. charged_signals k c.as_slice-levels.result.now c.args.own.now c.args.charges.now c.drive.new.driven) c.as_slice.ensures
+    ∙ ap (λ l. charged_signals kinds l c.args.own.now c.args.charges.now c.drive.new.driven) c.as_slice-levels.ensures in
     c.choose.ensures
     ∙ ap (chosen_signals c.drive.new.driven) second
     ∙ ap (λ s. chosen_signals c.drive.new.driven (settled switches s)) charge

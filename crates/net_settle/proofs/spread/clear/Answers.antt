@@ -13,7 +13,7 @@ loop-net-preserved c n d lt =
     elim (cases_eq n c.loop-net.net) [
       | inl e ↦ (
         ap (at (slice_set c.loop-net.bounds c.loop-net.net c.zero.result)) e
-        ∙ at-same c.loop-net.bounds c.loop-net.net c.zero.result (omega arith) ∙ c.zero.ensures,
+            ∙ at-same c.loop-net.bounds c.loop-net.net c.zero.result (omega arith) ∙ c.zero.ensures,
         subst IsSignal
             (c.index-own-net.is ∙ get_or_default c.args.own.now c.loop-net.net c.index-own-net.result d inside
             ∙ ap (λ k. get_or c.args.own.now k d) (sym e))

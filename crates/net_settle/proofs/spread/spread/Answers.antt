@@ -16,7 +16,7 @@ returns c =
     let own = bounds_of c.args.side c.args.own.now in
     let moves = c.walks-test.ensures.moves in
     let all = spreads-then c.args.side switches c.args.level c.take_own.new.bounds c.walks.bounds c.walk.new.bounds
-        c.walks.invariant c.walk.ensures.spreads in
+    c.walks.invariant c.walk.ensures.spreads in
     record {
       finishes = λ r level done.
           let first = c.take_own.ensures.spreads switches r level done in

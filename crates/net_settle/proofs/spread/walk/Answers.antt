@@ -25,15 +25,15 @@ loop-passed-preserved c =
       | then-took w ↦
           rw w.changed-is
           (walked_took c.args.side c.args.links.now c.args.on.now c.args.level c.args.backwards c.args.bounds.now
-              c.loop-passed.bounds c.take_carried-took.new.bounds c.loop-passed.changed c.loop-passed.passed c.if-backwards.at first On
-              c.loop-passed.invariant c.requires.conduction c.loop-passed-test.true (place c) c.take_carried-took.ensures.spreads
-              (subst (λ b. Moves b Rests c.loop-passed.bounds c.take_carried-took.new.bounds) w.if-took.true c.take_carried-took.ensures.moves))
+          c.loop-passed.bounds c.take_carried-took.new.bounds c.loop-passed.changed c.loop-passed.passed c.if-backwards.at first On
+          c.loop-passed.invariant c.requires.conduction c.loop-passed-test.true (place c) c.take_carried-took.ensures.spreads
+          (subst (λ b. Moves b Rests c.loop-passed.bounds c.take_carried-took.new.bounds) w.if-took.true c.take_carried-took.ensures.moves))
       | else-took w ↦
           let m = subst (λ b. Moves b Rests c.loop-passed.bounds c.take_carried-took.new.bounds) w.if-took.false c.take_carried-took.ensures.moves in
           rw w.changed-is
           (walked_rests c.args.side c.args.links.now c.args.on.now c.args.level c.args.backwards c.args.bounds.now
-              c.loop-passed.bounds c.take_carried-took.new.bounds c.loop-passed.changed c.loop-passed.passed c.if-backwards.at first On
-              c.loop-passed.invariant c.requires.conduction c.loop-passed-test.true (place c) c.take_carried-took.ensures.spreads m.0 m.1)
+          c.loop-passed.bounds c.take_carried-took.new.bounds c.loop-passed.changed c.loop-passed.passed c.if-backwards.at first On
+          c.loop-passed.invariant c.requires.conduction c.loop-passed-test.true (place c) c.take_carried-took.ensures.spreads m.0 m.1)
     ]
 
 pub returns-clause-moves : goal.returns-clause-moves
