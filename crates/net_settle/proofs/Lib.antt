@@ -9,3 +9,5 @@ pub mod SameSignal
 pub mod ChargeBounds
 pub mod Listed
 pub mod Alone
+pub mod Again
+pub mod Laws
