@@ -67,11 +67,10 @@ better-right_most : (side : Side) (x y : ℤ) → rank side y ≤ rank side (bet
 better-right_most side x y = subst (λ (v : ℤ). rank side y ≤ rank side v) (better-comm side y x) (better-left_most side y x)
 
 -- one of the levels of a charge
-IsSign : ℕ → ℤ → Type 0
+abbrev pub IsSign : ℕ → ℤ → Type 0
 IsSign c v = (v ≡ below c) ⊎ (v ≡ pos c)
 
 sign-rank : (side : Side) (c : ℕ) (k : ℤ) → 0 < c → IsSign c k → 2 * c ≤ rank side k + 1
-unfolding IsSign
 sign-rank Lower c k some (inl e) = let f = ap (rank Lower) e in let g = rank-favoured Lower c in omega arith
 sign-rank Lower c k some (inr e) = let f = ap (rank Lower) e in let g = rank-opposed Lower c some in omega arith
 sign-rank Upper c k some (inl e) = let f = ap (rank Upper) e in let g = rank-opposed Upper c some in omega arith
@@ -88,8 +87,7 @@ charge_bound-opposed : (side : Side) (c n : ℕ) → charge_bound c (opposed sid
 charge_bound-opposed Lower c n = charge_bound-favoured Upper c n
 charge_bound-opposed Upper c n = refl
 
-charge_bound-sign : (c : ℕ) (k : ℤ) → 0 < c → IsSign c k → charge_bound c k ≡ k
-unfolding IsSign
+pub charge_bound-sign : (c : ℕ) (k : ℤ) → 0 < c → IsSign c k → charge_bound c k ≡ k
 charge_bound-sign zero k some is = absurd (omega arith)
 charge_bound-sign (suc c) k some (inl e) = rw e (charge_bound-favoured Lower (suc c) c)
 charge_bound-sign (suc c) k some (inr e) = rw e (charge_bound-favoured Upper (suc c) c)
@@ -112,7 +110,7 @@ charge_bound-rank side c k b some is le = by_sign side c k b (signed side b) som
         rw (charge_bound-opposed side c n) (omega arith)
 
 -- on a plain net: what is left of a charge is no better than the bound that its own bound and the charge settled to
-again_better : (side : Side) (c : ℕ) (o k b : ℤ) → 0 < c → IsSign c k → rank side (better side o k) ≤ rank side b →
+pub again_better : (side : Side) (c : ℕ) (o k b : ℤ) → 0 < c → IsSign c k → rank side (better side o k) ≤ rank side b →
     (rank side (better side o (charge_bound c b)) ≤ rank side b) × (b ≡ better side o k → b ≡ better side o (charge_bound c b))
 again_better side c o k b some is le =
     let ro = better-left_most side o k in

@@ -72,3 +72,27 @@ settled-only switches own signals are_signals are =
         bounds_of side signals ≡ settled_bounds side switches (bounds_of side own)
     once side is = settled_once side switches (bounds_of side own) 14 (signals-most side own are_signals) _ _ is
         (settled_bounds-settled side switches (bounds_of side own) (signals-most side own are_signals))
+
+-- the signals that settle are signals
+pub settled-signals : (switches : List Switch) (own : List Signal) → All IsSignal own → All IsSignal (settled switches own)
+settled-signals switches own signals k d lt =
+    let are = settled-are_settled switches own signals in
+    let s = settled switches own in
+    let inside : k < length s = lt in
+    subst IsSignal (get_or_default s k undriven d lt) record {
+      low = subst (λ (v : ℤ). negsuc 6 ≤ℤ v) (bounds_of-at Lower s k)
+          (from_rank Lower _ (bounds-most Lower switches (bounds_of Lower own) 14 (signals-most Lower own signals) _ are.lower k)).0;
+      order = subst (λ (v : ℤ). v ≤ℤ (signal_at s k).hi) (bounds_of-at Lower s k)
+          (subst (λ (v : ℤ). at (bounds_of Lower s) k ≤ℤ v) (bounds_of-at Upper s k)
+              (both_in_order switches own (bounds_of Lower s) (bounds_of Upper s) signals are.lower are.upper k));
+      high = subst (λ (v : ℤ). v ≤ℤ pos 7) (bounds_of-at Upper s k)
+          (from_rank Upper _ (bounds-most Upper switches (bounds_of Upper own) 14 (signals-most Upper own signals) _ are.upper k)).1;
+    }
+  where
+    from_rank : (side : Side) (v : ℤ) → rank side v ≤ 14 → (negsuc 6 ≤ℤ v) × (v ≤ℤ pos 7)
+    from_rank Lower (pos zero) h = (omega (arith, ints), omega (arith, ints))
+    from_rank Lower (pos (suc n)) h = (omega (arith, ints), omega (arith, ints))
+    from_rank Lower (negsuc n) h = (omega (arith, ints), omega (arith, ints))
+    from_rank Upper (pos zero) h = (omega (arith, ints), omega (arith, ints))
+    from_rank Upper (pos (suc n)) h = (omega (arith, ints), omega (arith, ints))
+    from_rank Upper (negsuc n) h = (omega (arith, ints), omega (arith, ints))

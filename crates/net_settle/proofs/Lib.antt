@@ -11,3 +11,5 @@ pub mod Listed
 pub mod Alone
 pub mod Again
 pub mod Laws
+pub mod Contributions
+pub mod SettlingAgain
