@@ -8,6 +8,8 @@ use Rattle.level_range.specs.Signal.{Signal, IsSignal, undriven}
 use Rattle.net_settle.specs.declared.shape.Link.{Link}
 use Rattle.net_settle.specs.ByLevels.{settled}
 use Rattle.net_settle.specs.Charges.{charged_signals, chosen, chosen_signals, signal_at, excludes_zero}
+use Rattle.net_settle.specs.Settling.{AreSettled}
+use Rattle.net_settle.proofs.Laws.{settled-are_settled}
 use Rattle.net_settle.proofs.Listed.{settled-alone, one_list, one_signal, chosen_signals-all}
 
 -- no links, no switches
@@ -38,6 +40,11 @@ module _ (links : List Link) (on : List Conduct) (own driven : List Signal) (fir
 
   pub alone-driven : driven ≡ settled (zip links on) own
   alone-driven = driven_is ∙ sym own_settled
+
+  pub alone-driven_settled : AreSettled (zip links on) own driven
+  alone-driven_settled =
+      subst (AreSettled (zip links on) own) (sym alone-driven)
+      (settled-are_settled (zip links on) own (one_signal own first one first_signal first_own))
 
   module _ (kinds : List Kind) (levels : List ℕ) (charges charged : List Signal) (second : Signal)
       (charged_is : charged ≡ charged_signals kinds levels own charges driven)
@@ -74,3 +81,32 @@ module _ (links : List Link) (on : List Conduct) (own driven : List Signal) (fir
         all_chosen out (ap length is ∙ one_charged)
         (ap (λ l. get_or l 0 undriven) is
         ∙ ap (λ b. cond b (signal_at own 0) (signal_at charged 0)) (sym excluded ∙ ap excludes_zero first_own))
+
+    pub alone-charged_settled : AreSettled (zip links on) (charged_signals kinds levels own charges driven) charged
+    alone-charged_settled =
+        subst (λ (own : List Signal). AreSettled (zip links on) own charged) charged_is
+        (subst (AreSettled (zip links on) charged) charged_settled
+            (settled-are_settled (zip links on) charged
+                (one_signal charged second one_charged second_signal (read_one charged second one_charged second_is))))
+
+    driven-all : (out : List Signal) → length out ≡ 1 → get_or out 0 undriven ≡ chosen (signal_at driven 0) (signal_at charged 0) → out ≡ chosen_signals driven charged
+    driven-all out one_out here =
+        chosen_signals-all driven charged out (one_out ∙ sym (ap length driven_is ∙ one)) (λ n lt.
+            let z : n ≡ 0 = (let e = ap length driven_is in omega arith) in
+            let P : ℕ → Type 0 = λ i. get_or out i undriven ≡ chosen (signal_at driven i) (signal_at charged i) in
+            subst P (sym z) here)
+
+    first_driven_is : first ≡ signal_at driven 0
+    first_driven_is = first_own ∙ ap (λ l. signal_at l 0) (sym driven_is)
+
+    pub chosen-excluded : (out : List Signal) → excludes_zero first ≡ true → out ≡ slice_set charged 0 first → out ≡ chosen_signals driven charged
+    chosen-excluded out excluded is =
+        driven-all out (ap length is ∙ length-set charged 0 first ∙ one_charged)
+        (ap (λ l. get_or l 0 undriven) is ∙ get_or-set_same charged 0 first undriven (omega arith) ∙ first_driven_is
+        ∙ ap (λ b. cond b (signal_at driven 0) (signal_at charged 0)) (sym excluded ∙ ap excludes_zero first_driven_is))
+
+    pub chosen-second : (out : List Signal) → excludes_zero first ≡ false → out ≡ charged → out ≡ chosen_signals driven charged
+    chosen-second out excluded is =
+        driven-all out (ap length is ∙ one_charged)
+        (ap (λ l. get_or l 0 undriven) is
+        ∙ ap (λ b. cond b (signal_at driven 0) (signal_at charged 0)) (sym excluded ∙ ap excludes_zero first_driven_is))

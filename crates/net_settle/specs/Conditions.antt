@@ -5,7 +5,8 @@ use Rattle.level_range.specs.declared.range.Kind.TheVariants.{Plain}
 use Rattle.level_range.specs.Signal.{Signal, below}
 use Rattle.net_settle.specs.declared.shape.Link.{Link}
 use Rattle.net_settle.specs.declared.shape.Shape.{Shape}
-use Rattle.net_settle.specs.Charges.{level, signal_at}
+use Rattle.net_settle.specs.Settling.{AreSettled}
+use Rattle.net_settle.specs.Charges.{level, signal_at, switches_of, charged_signals, chosen_signals}
 
 -- the ends of each link are among so many nets
 abbrev pub EndsWithin : ℕ → List Link → Type 0
@@ -45,3 +46,13 @@ pub record CanSettle (shape : Shape) (own : List Signal) (on : List Conduct) (ch
   pub driven_nets : length driven ≡ length own
   pub signal_nets : length signals ≡ length own
   pub enough : length own ≤ room
+
+-- a net without a charge keeps what stands in its place
+abbrev pub OthersStay : List ℕ → List Signal → List Signal → Type 0
+OthersStay levels before after = (n : ℕ) → slice_index_or levels n 0 ≡ 0 → signal_at after n ≡ signal_at before n
+
+-- the signals of an island are the driven ones where they exclude 0, else those that are settled with charges
+pub record AreCharged (shape : Shape) (on : List Conduct) (own charges driven signals : List Signal) : Type 0 where
+  pub second : List Signal
+  pub settled : AreSettled (switches_of shape on) (charged_signals shape.kinds shape.charge own charges driven) second
+  pub chosen : signals ≡ chosen_signals driven second

@@ -1,6 +1,7 @@
-ghost use Rattle.std.specs.Prelude.{◌≡◌, ◌≤◌, ◌≤ℤ◌, pos, negsuc, length};
+ghost use Rattle.std.specs.Prelude.{◌≡◌, ◌≢◌, ◌≤◌};
 ghost use Rattle.level_range.specs.Reduce.{hull_of};
 ghost use Rattle.net_settle.specs.Charges.{level as level_of, excludes_zero as excludes_zero_of, widened_down as widened_down_of, widened as widened_of, contribution as contribution_of, charge_bound as charge_bound_of, charge_left as charge_left_of};
+ghost use Rattle.net_settle.specs.Conditions.{IsCharge};
 
 use crate::level::{Level, signal};
 use crate::side::{Side, bound};
@@ -80,7 +81,9 @@ fn charge_bound(strength: u8, bound: Level) -> Level
 /// What becomes of a charge by the signal of its net; at strength 0, which is none, it stays.
 pub fn charge_left(strength: u8, charge: Range, settled: Range) -> Range
     requires { strength ≤ 7 }
-    ensures { result ≡ charge_left_of strength charge settled }
+    ensures value { result ≡ charge_left_of strength charge settled }
+    ensures charge { strength ≢ 0 → IsCharge strength result }
+    ensures stays { strength ≡ 0 → result ≡ charge }
 {
     if strength == 0 {
         return charge;

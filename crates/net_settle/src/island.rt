@@ -1,10 +1,10 @@
 ghost use Rattle.std.specs.Prelude.{◌≡◌, ◌≤◌, ◌≤ℤ◌, ℕ, length, zip, [], All};
-ghost use Rattle.level_range.specs.Signal.{Signal};
+ghost use Rattle.level_range.specs.Signal.{IsSignal};
 ghost use Rattle.net_settle.specs.Bounds.{at, bounds_of};
 ghost use Rattle.net_settle.specs.Settling.{IsSettled, AreSettled};
 ghost use Rattle.net_settle.specs.ByLevels.{settled_bounds, signals_between, settled};
-ghost use Rattle.net_settle.specs.Charges.{charged_signals, chosen_signals, charges_left, driven_signals, island_signals};
-ghost use Rattle.net_settle.specs.Conditions.{EndsWithin, IsChargeLevel, AreCharges, CanSettle, IsIsland};
+ghost use Rattle.net_settle.specs.Charges.{charged_signals, chosen_signals, charges_left, switches_of, driven_signals, island_signals};
+ghost use Rattle.net_settle.specs.Conditions.{EndsWithin, IsChargeLevel, AreCharges, OthersStay, AreCharged, CanSettle, IsIsland};
 
 use crate::charge::{charge_left, contribution, excludes_zero};
 use crate::level::{Level, signal};
@@ -31,6 +31,7 @@ fn settle_both(
     ensures settled_lower { IsSettled Side.Lower (zip links.now on.now) (bounds_of Side.Lower own.now) lower.new }
     ensures settled_upper { IsSettled Side.Upper (zip links.now on.now) (bounds_of Side.Upper own.now) upper.new }
     ensures in_order { (n : ℕ) → at lower.new n ≤ℤ at upper.new n }
+    ensures own { All IsSignal own.now }
 {
     settle_bounds(lower, links, on, own, Side::Lower);
     settle_bounds(upper, links, on, own, Side::Upper);
@@ -93,7 +94,9 @@ fn keep_charges(charges: &mut [Range], levels: &[u8], signals: &[Range])
     requires levels { length levels.now ≡ length charges.old }
     requires strengths { All IsChargeLevel levels.now }
     requires signals { length signals.now ≡ length charges.old }
-    ensures { charges.new ≡ charges_left levels.now charges.old signals.now }
+    ensures value { charges.new ≡ charges_left levels.now charges.old signals.now }
+    ensures charged { AreCharges levels.now charges.new }
+    ensures stays { OthersStay levels.now charges.old charges.new }
 {
     for net in 0..charges.len() {
         charges[net] = charge_left(levels[net], charges[net], signals[net]);
@@ -120,6 +123,10 @@ fn settle_lists(
     ensures driven { driven.new ≡ driven_signals shape.now on.now own.now }
     ensures signals { out.new ≡ island_signals shape.now on.now own.now charges.old }
     ensures charges { charges.new ≡ charges_left shape.now.charge charges.old out.new }
+    ensures driven_settled { AreSettled (switches_of shape.now on.now) own.now driven.new }
+    ensures charged { AreCharged shape.now on.now own.now charges.old driven.new out.new }
+    ensures left { AreCharges shape.now.charge charges.new }
+    ensures stays { OthersStay shape.now.charge charges.old charges.new }
 {
     let lower = &mut lower[..own.len()];
     let upper = &mut upper[..own.len()];
@@ -150,6 +157,10 @@ fn settle_alone(
     ensures driven { driven.new ≡ driven_signals shape.now on.now own.now }
     ensures signals { out.new ≡ island_signals shape.now on.now own.now charges.old }
     ensures charges { charges.new ≡ charges_left shape.now.charge charges.old out.new }
+    ensures driven_settled { AreSettled (switches_of shape.now on.now) own.now driven.new }
+    ensures charged { AreCharged shape.now on.now own.now charges.old driven.new out.new }
+    ensures left { AreCharges shape.now.charge charges.new }
+    ensures stays { OthersStay shape.now.charge charges.old charges.new }
 {
     let levels = shape.charge.as_slice();
     driven[0] = own[0];
@@ -183,6 +194,10 @@ pub fn settle(
     ensures driven { driven.new ≡ driven_signals shape.now on.now own.now }
     ensures signals { out.new ≡ island_signals shape.now on.now own.now charges.old }
     ensures charges { charges.new ≡ charges_left shape.now.charge charges.old out.new }
+    ensures driven_settled { AreSettled (switches_of shape.now on.now) own.now driven.new }
+    ensures charged { AreCharged shape.now on.now own.now charges.old driven.new out.new }
+    ensures left { AreCharges shape.now.charge charges.new }
+    ensures stays { OthersStay shape.now.charge charges.old charges.new }
     ensures room { scratch.new ≡ scratch.old }
 {
     if own.len() == 1 && shape.links.as_slice().is_empty() {
