@@ -86,15 +86,15 @@ module _ (links : List Link) (on : List Conduct) (own driven : List Signal) (fir
     alone-charged_settled =
         subst (λ (own : List Signal). AreSettled (zip links on) own charged) charged_is
         (subst (AreSettled (zip links on) charged) charged_settled
-            (settled-are_settled (zip links on) charged
-                (one_signal charged second one_charged second_signal (read_one charged second one_charged second_is))))
+        (settled-are_settled (zip links on) charged
+        (one_signal charged second one_charged second_signal (read_one charged second one_charged second_is))))
 
     driven-all : (out : List Signal) → length out ≡ 1 → get_or out 0 undriven ≡ chosen (signal_at driven 0) (signal_at charged 0) → out ≡ chosen_signals driven charged
     driven-all out one_out here =
         chosen_signals-all driven charged out (one_out ∙ sym (ap length driven_is ∙ one)) (λ n lt.
-            let z : n ≡ 0 = (let e = ap length driven_is in omega arith) in
-            let P : ℕ → Type 0 = λ i. get_or out i undriven ≡ chosen (signal_at driven i) (signal_at charged i) in
-            subst P (sym z) here)
+        let z : n ≡ 0 = (let e = ap length driven_is in omega arith) in
+        let P : ℕ → Type 0 = λ i. get_or out i undriven ≡ chosen (signal_at driven i) (signal_at charged i) in
+        subst P (sym z) here)
 
     first_driven_is : first ≡ signal_at driven 0
     first_driven_is = first_own ∙ ap (λ l. signal_at l 0) (sym driven_is)

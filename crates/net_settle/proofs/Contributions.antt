@@ -152,10 +152,10 @@ next_contribution c charge driven second = contribution c (charge_left c charge 
 -- what the next contribution makes of a net's own bound
 pub record Keeps (side : Side) (kind : Kind) (c : ℕ) (own charge driven second : Signal) : Type 0 where
   pub weaker :
-    rank side (bound_of side (joined kind own (next_contribution c charge driven second))) ≤ rank side (bound_of side second)
+      rank side (bound_of side (joined kind own (next_contribution c charge driven second))) ≤ rank side (bound_of side second)
   pub kept :
-    bound_of side second ≡ bound_of side (joined kind own (contribution c charge driven))
-    → bound_of side second ≡ bound_of side (joined kind own (next_contribution c charge driven second))
+      bound_of side second ≡ bound_of side (joined kind own (contribution c charge driven))
+      → bound_of side second ≡ bound_of side (joined kind own (next_contribution c charge driven second))
 
 module _ (side : Side) (kind : Kind) (own charge driven second : Signal) where
   abbrev pub Settled : ℕ → Type 0
@@ -176,21 +176,21 @@ module _ (side : Side) (kind : Kind) (own charge driven second : Signal) where
       let some : suc m ≢ 0 = λ (z : suc m ≡ 0). absurd (omega arith) in
       let same : chosen driven second ≡ second = ap (λ b. cond b driven second) within in
       let k : bound_of side (contribution (suc m) charge driven) ≡ bound_of side charge =
-          bound-contribution side m charge driven within is ∙ ap (λ b. cond b (favoured side (suc m)) (bound_of side charge)) sign in
+      bound-contribution side m charge driven within is ∙ ap (λ b. cond b (favoured side (suc m)) (bound_of side charge)) sign in
       let left = left-charge (suc m) charge second some order in
       let next_is : bound_of side (next_contribution (suc m) charge driven second) ≡ charge_bound (suc m) (bound_of side second) =
-          ap (λ s. bound_of side (contribution (suc m) (charge_left (suc m) charge s) driven)) same
-          ∙ bound-contribution side m (charge_left (suc m) charge second) driven within left
-          ∙ ap (λ b. cond b (favoured side (suc m)) (bound_of side (charge_left (suc m) charge second))) sign
-          ∙ left-bound side (suc m) charge second some in
+      ap (λ s. bound_of side (contribution (suc m) (charge_left (suc m) charge s) driven)) same
+      ∙ bound-contribution side m (charge_left (suc m) charge second) driven within left
+      ∙ ap (λ b. cond b (favoured side (suc m)) (bound_of side (charge_left (suc m) charge second))) sign
+      ∙ left-bound side (suc m) charge second some in
       elim how [
         | inl plain ↦
             let a : bound_of side (joined kind own (contribution (suc m) charge driven)) ≡ better side (bound_of side own) (bound_of side charge) =
-                bound-joined side kind own _ ∙ ap (λ q. combine side q (bound_of side own) (bound_of side (contribution (suc m) charge driven))) plain
-                ∙ combine-plain side _ _ ∙ ap (better side (bound_of side own)) k in
+            bound-joined side kind own _ ∙ ap (λ q. combine side q (bound_of side own) (bound_of side (contribution (suc m) charge driven))) plain
+            ∙ combine-plain side _ _ ∙ ap (better side (bound_of side own)) k in
             let b : bound_of side (joined kind own (next_contribution (suc m) charge driven second)) ≡ better side (bound_of side own) (charge_bound (suc m) (bound_of side second)) =
-                bound-joined side kind own _ ∙ ap (λ q. combine side q (bound_of side own) (bound_of side (next_contribution (suc m) charge driven second))) plain
-                ∙ combine-plain side _ _ ∙ ap (better side (bound_of side own)) next_is in
+            bound-joined side kind own _ ∙ ap (λ q. combine side q (bound_of side own) (bound_of side (next_contribution (suc m) charge driven second))) plain
+            ∙ combine-plain side _ _ ∙ ap (better side (bound_of side own)) next_is in
             let le2 = subst (λ (v : ℤ). rank side v ≤ rank side (bound_of side second)) a le in
             let both = again_better side (suc m) (bound_of side own) (bound_of side charge) (bound_of side second) (omega arith) (charge-sign side (suc m) charge is) le2 in
             record {
@@ -200,13 +200,13 @@ module _ (side : Side) (kind : Kind) (own charge driven second : Signal) where
         | inr (driven_is, second_is) ↦
             let zero : bound_of side own ≡ pos 0 = ap (bound_of side) (sym driven_is) ∙ bound_zero side driven within sign in
             let a : bound_of side (joined kind own (contribution (suc m) charge driven)) ≡ bound_of side charge =
-                bound-joined side kind own _ ∙ ap (λ x. combine side kind x (bound_of side (contribution (suc m) charge driven))) zero
-                ∙ combine-none side kind _ ∙ k in
+            bound-joined side kind own _ ∙ ap (λ x. combine side kind x (bound_of side (contribution (suc m) charge driven))) zero
+            ∙ combine-none side kind _ ∙ k in
             let b : bound_of side (joined kind own (next_contribution (suc m) charge driven second)) ≡ bound_of side charge =
-                bound-joined side kind own _ ∙ ap (λ x. combine side kind x (bound_of side (next_contribution (suc m) charge driven second))) zero
-                ∙ combine-none side kind _ ∙ next_is
-                ∙ ap (charge_bound (suc m)) (ap (bound_of side) second_is ∙ a)
-                ∙ charge_bound-sign (suc m) (bound_of side charge) (omega arith) (charge-sign side (suc m) charge is) in
+            bound-joined side kind own _ ∙ ap (λ x. combine side kind x (bound_of side (next_contribution (suc m) charge driven second))) zero
+            ∙ combine-none side kind _ ∙ next_is
+            ∙ ap (charge_bound (suc m)) (ap (bound_of side) second_is ∙ a)
+            ∙ charge_bound-sign (suc m) (bound_of side charge) (omega arith) (charge-sign side (suc m) charge is) in
             keeps-same (suc m) le (a ∙ sym b)
       ]
 
@@ -217,7 +217,7 @@ module _ (side : Side) (kind : Kind) (own charge driven second : Signal) where
   keeps (suc m) le is order how = elim (cases_Bool (excludes_zero driven)) [
     | inl e ↦
         keeps-same (suc m) le (ap (λ s. bound_of side (joined kind own s))
-            (contribution-excluded (suc m) charge driven e ∙ sym (contribution-excluded (suc m) (charge_left (suc m) charge (chosen driven second)) driven e)))
+        (contribution-excluded (suc m) charge driven e ∙ sym (contribution-excluded (suc m) (charge_left (suc m) charge (chosen driven second)) driven e)))
     | inr e ↦ elim (cases_Bool (is_favoured side (bound_of side driven))) [
       | inl f ↦
           let some : suc m ≢ 0 = λ (z : suc m ≡ 0). absurd (omega arith) in
@@ -225,7 +225,7 @@ module _ (side : Side) (kind : Kind) (own charge driven second : Signal) where
           let left = subst (λ s. IsCharge (suc m) (charge_left (suc m) charge s)) (sym same) (left-charge (suc m) charge second some order) in
           let k = bound-contribution side m charge driven e (is some) ∙ ap (λ b. cond b (favoured side (suc m)) (bound_of side charge)) f in
           let n = bound-contribution side m (charge_left (suc m) charge (chosen driven second)) driven e left
-              ∙ ap (λ b. cond b (favoured side (suc m)) (bound_of side (charge_left (suc m) charge (chosen driven second)))) f in
+          ∙ ap (λ b. cond b (favoured side (suc m)) (bound_of side (charge_left (suc m) charge (chosen driven second)))) f in
           keeps-same (suc m) le
           (bound-joined side kind own _ ∙ ap (combine side kind (bound_of side own)) (k ∙ sym n) ∙ sym (bound-joined side kind own _))
       | inr f ↦ keeps-some m le e f (is (λ (z : suc m ≡ 0). absurd (omega arith))) order how

@@ -22,11 +22,11 @@ bounds_of-between : (side : Side) (lower upper : List ℤ) (nets : ℕ) → leng
 bounds_of-between side lower upper nets low high =
     same_lists _ _ (length-bounds_of side (signals_between lower upper nets) ∙ length-signals_between lower upper nets ∙ sym (long side))
     (λ k d lt.
-        let inside : k < nets = (let a = length-bounds_of side (signals_between lower upper nets) in let b = length-signals_between lower upper nets in omega arith) in
-        get_or_default (bounds_of side (signals_between lower upper nets)) k d (pos 0) lt
-        ∙ bounds_of-at side (signals_between lower upper nets) k
-        ∙ ap (bound_of side) (signals_between-at lower upper nets k undriven inside)
-        ∙ here side k d inside)
+    let inside : k < nets = (let a = length-bounds_of side (signals_between lower upper nets) in let b = length-signals_between lower upper nets in omega arith) in
+    get_or_default (bounds_of side (signals_between lower upper nets)) k d (pos 0) lt
+    ∙ bounds_of-at side (signals_between lower upper nets) k
+    ∙ ap (bound_of side) (signals_between-at lower upper nets k undriven inside)
+    ∙ here side k d inside)
   where
     long : (side : Side) → length (by_side lower upper side) ≡ nets
     long Lower = low
@@ -63,10 +63,10 @@ settled-are_settled switches own signals = record {
 pub settled-only : (switches : List Switch) (own signals : List Signal) → All IsSignal own → AreSettled switches own signals → signals ≡ settled switches own
 settled-only switches own signals are_signals are =
     signals_between-all (bounds_of Lower signals) (bounds_of Upper signals) (length signals) signals refl
-        (λ n lt. same_signal (get_or signals n undriven) _ _ (sym (bounds_of-at Lower signals n)) (sym (bounds_of-at Upper signals n)))
+    (λ n lt. same_signal (get_or signals n undriven) _ _ (sym (bounds_of-at Lower signals n)) (sym (bounds_of-at Upper signals n)))
     ∙ settled-between switches own (bounds_of Lower signals) (bounds_of Upper signals) (length signals)
-        (once Lower are.lower) (once Upper are.upper)
-        (sym (length-bounds_of Lower signals) ∙ are.lower.nets ∙ length-bounds_of Lower own)
+    (once Lower are.lower) (once Upper are.upper)
+    (sym (length-bounds_of Lower signals) ∙ are.lower.nets ∙ length-bounds_of Lower own)
   where
     once : (side : Side) → IsSettled side switches (bounds_of side own) (bounds_of side signals) →
         bounds_of side signals ≡ settled_bounds side switches (bounds_of side own)
@@ -84,7 +84,7 @@ settled-signals switches own signals k d lt =
           (from_rank Lower _ (bounds-most Lower switches (bounds_of Lower own) 14 (signals-most Lower own signals) _ are.lower k)).0;
       order = subst (λ (v : ℤ). v ≤ℤ (signal_at s k).hi) (bounds_of-at Lower s k)
           (subst (λ (v : ℤ). at (bounds_of Lower s) k ≤ℤ v) (bounds_of-at Upper s k)
-              (both_in_order switches own (bounds_of Lower s) (bounds_of Upper s) signals are.lower are.upper k));
+          (both_in_order switches own (bounds_of Lower s) (bounds_of Upper s) signals are.lower are.upper k));
       high = subst (λ (v : ℤ). v ≤ℤ pos 7) (bounds_of-at Upper s k)
           (from_rank Upper _ (bounds-most Upper switches (bounds_of Upper own) 14 (signals-most Upper own signals) _ are.upper k)).1;
     }

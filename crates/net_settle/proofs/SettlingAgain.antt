@@ -96,7 +96,7 @@ module _ (shape : Shape) (on : List Conduct) (own charges : List Signal)
       let inside : k < length own = (let e = length-charged shape.kinds shape.charge own charges driven in omega arith) in
       subst IsSignal (sym (charged-at shape.kinds shape.charge own charges driven k d inside))
       (charged-signal (slice_index_or shape.kinds k Plain) (slice_index_or shape.charge k 0) (signal_at own k) (signal_at charges k) (signal_at driven k)
-          (signal_is own signals k) (level_is shape.charge island.strengths k) (charge_is k))
+      (signal_is own signals k) (level_is shape.charge island.strengths k) (charge_is k))
 
   length-driven : length driven ≡ length own
   length-driven =
@@ -106,26 +106,26 @@ module _ (shape : Shape) (on : List Conduct) (own charges : List Signal)
   plain_or_alone : (n : ℕ) → n < length own →
       PlainOrAlone (slice_index_or shape.kinds n Plain) (signal_at own n) (signal_at driven n)
       (joined (slice_index_or shape.kinds n Plain) (signal_at own n)
-          (contribution (slice_index_or shape.charge n 0) (signal_at charges n) (signal_at driven n)))
+      (contribution (slice_index_or shape.charge n 0) (signal_at charges n) (signal_at driven n)))
       (signal_at second n)
   plain_or_alone n lt = by_kind (slice_index_or shape.kinds n Plain) refl
     where
       alone : slice_index_or shape.kinds n Plain ≢ Plain →
           PlainOrAlone (slice_index_or shape.kinds n Plain) (signal_at own n) (signal_at driven n)
           (joined (slice_index_or shape.kinds n Plain) (signal_at own n)
-              (contribution (slice_index_or shape.charge n 0) (signal_at charges n) (signal_at driven n)))
+          (contribution (slice_index_or shape.charge n 0) (signal_at charges n) (signal_at driven n)))
           (signal_at second n)
       alone ne =
           let none = (wired n ne).1 in inr (
             ap (λ l. signal_at (settled (zip l on) own) n) none ∙ ap (λ s. signal_at s n) (settled-alone own signals),
             ap (λ l. signal_at (settled (zip l on) first) n) none ∙ ap (λ s. signal_at s n) (settled-alone first first-signals)
-            ∙ charged-at shape.kinds shape.charge own charges driven n undriven lt,
+                ∙ charged-at shape.kinds shape.charge own charges driven n undriven lt,
           )
 
       by_kind : (kind : Kind) → slice_index_or shape.kinds n Plain ≡ kind →
           PlainOrAlone (slice_index_or shape.kinds n Plain) (signal_at own n) (signal_at driven n)
           (joined (slice_index_or shape.kinds n Plain) (signal_at own n)
-              (contribution (slice_index_or shape.charge n 0) (signal_at charges n) (signal_at driven n)))
+          (contribution (slice_index_or shape.charge n 0) (signal_at charges n) (signal_at driven n)))
           (signal_at second n)
       by_kind Plain e = inl e
       by_kind And e = alone (λ f. cc)
@@ -157,8 +157,8 @@ module _ (shape : Shape) (on : List Conduct) (own charges : List Signal)
   next-at n lt =
       charged-at shape.kinds shape.charge own left driven n undriven lt
       ∙ ap (λ s. joined (slice_index_or shape.kinds n Plain) (signal_at own n) (contribution (slice_index_or shape.charge n 0) s (signal_at driven n)))
-          (left-at shape.charge charges (chosen_signals driven second) n undriven (let e = island.charge_nets in omega arith)
-          ∙ ap (charge_left (slice_index_or shape.charge n 0) (signal_at charges n)) (chosen-at driven second n undriven (let e = length-driven in omega arith)))
+      (left-at shape.charge charges (chosen_signals driven second) n undriven (let e = island.charge_nets in omega arith)
+      ∙ ap (charge_left (slice_index_or shape.charge n 0) (signal_at charges n)) (chosen-at driven second n undriven (let e = length-driven in omega arith)))
 
   same_nets : (side : Side) → length (bounds_of side next) ≡ length (bounds_of side first)
   same_nets side =
@@ -170,11 +170,11 @@ module _ (shape : Shape) (on : List Conduct) (own charges : List Signal)
     | inl lt ↦
         subst (λ (v : ℤ). rank side v ≤ rank side (at (bounds_of side second) n)) (sym (bounds_of-at side next n ∙ ap (bound_of side) (next-at n lt)))
         (subst (λ (v : ℤ). rank side (bound_of side (joined (slice_index_or shape.kinds n Plain) (signal_at own n)
-            (next_contribution (slice_index_or shape.charge n 0) (signal_at charges n) (signal_at driven n) (signal_at second n)))) ≤ rank side v)
-            (sym (bounds_of-at side second n)) (net-keeps side n lt).weaker)
+        (next_contribution (slice_index_or shape.charge n 0) (signal_at charges n) (signal_at driven n) (signal_at second n)))) ≤ rank side v)
+        (sym (bounds_of-at side second n)) (net-keeps side n lt).weaker)
     | inr ge ↦
         let e = get_or_past (bounds_of side next) n (pos 0)
-            (let a = length-bounds_of side next in let b = length-charged shape.kinds shape.charge own left driven in omega arith) in
+        (let a = length-bounds_of side next in let b = length-charged shape.kinds shape.charge own left driven in omega arith) in
         let f : rank side (at (bounds_of side next) n) ≡ rank side (pos 0) = ap (rank side) e in
         let z = rank-none side in
         omega arith
@@ -185,13 +185,13 @@ module _ (shape : Shape) (on : List Conduct) (own charges : List Signal)
     | inl lt ↦
         bounds_of-at side second n
         ∙ (net-keeps side n lt).kept
-            (sym (bounds_of-at side second n) ∙ e ∙ bounds_of-at side first n ∙ ap (bound_of side) (charged-at shape.kinds shape.charge own charges driven n undriven lt))
+        (sym (bounds_of-at side second n) ∙ e ∙ bounds_of-at side first n ∙ ap (bound_of side) (charged-at shape.kinds shape.charge own charges driven n undriven lt))
         ∙ sym (bounds_of-at side next n ∙ ap (bound_of side) (next-at n lt))
     | inr ge ↦
         e ∙ get_or_past (bounds_of side first) n (pos 0)
-            (let a = length-bounds_of side first in let b = length-charged shape.kinds shape.charge own charges driven in omega arith)
+        (let a = length-bounds_of side first in let b = length-charged shape.kinds shape.charge own charges driven in omega arith)
         ∙ sym (get_or_past (bounds_of side next) n (pos 0)
-            (let a = length-bounds_of side next in let b = length-charged shape.kinds shape.charge own left driven in omega arith))
+        (let a = length-bounds_of side next in let b = length-charged shape.kinds shape.charge own left driven in omega arith))
   ]
 
   next-settled : (side : Side) → IsSettled side switches (bounds_of side next) (bounds_of side second)
@@ -203,7 +203,7 @@ module _ (shape : Shape) (on : List Conduct) (own charges : List Signal)
     | inl lt ↦
         subst (IsCharge (slice_index_or shape.charge n 0)) (sym (left-at shape.charge charges (chosen_signals driven second) n undriven lt))
         (left-charge (slice_index_or shape.charge n 0) (signal_at charges n) (signal_at (chosen_signals driven second) n) some
-            (subst (λ s. s.lo ≤ℤ s.hi) (sym (chosen-at driven second n undriven (let e = length-driven in let f = island.charge_nets in omega arith))) (chosen-order n)))
+        (subst (λ s. s.lo ≤ℤ s.hi) (sym (chosen-at driven second n undriven (let e = length-driven in let f = island.charge_nets in omega arith))) (chosen-order n)))
     | inr ge ↦ absurd (some (get_or_past shape.charge n 0 (let e = island.levels in let f = island.charge_nets in omega arith)))
   ]
     where
@@ -219,14 +219,14 @@ module _ (shape : Shape) (on : List Conduct) (own charges : List Signal)
       let inside : k < length own = (let e = length-charged shape.kinds shape.charge own left driven in omega arith) in
       subst IsSignal (sym (charged-at shape.kinds shape.charge own left driven k d inside))
       (charged-signal (slice_index_or shape.kinds k Plain) (slice_index_or shape.charge k 0) (signal_at own k) (signal_at left k) (signal_at driven k)
-          (signal_is own signals k) (level_is shape.charge island.strengths k) (left-charges k))
+      (signal_is own signals k) (level_is shape.charge island.strengths k) (left-charges k))
 
   -- the signals are the same
   pub signals-again :
       island_signals shape on own (charges_left shape.charge charges (island_signals shape on own charges)) ≡ island_signals shape on own charges
   unfolding island_signals driven_signals
   signals-again =
-      ap (chosen_signals driven) (sym (settled-only switches next second next-signals record { lower = next-settled Lower; upper = next-settled Upper; }))
+      ap (chosen_signals driven) (sym (settled-only switches next second next-signals record { lower = next-settled Lower; upper = next-settled Upper }))
 
   -- and so are the charges
   pub charges-again : (settled_signals : List Signal) → settled_signals ≡ island_signals shape on own charges →
@@ -235,8 +235,8 @@ module _ (shape : Shape) (on : List Conduct) (own charges : List Signal)
       let once = charges_left shape.charge charges settled_signals in
       same_lists _ _ (length-left shape.charge once settled_signals)
       (λ k d lt.
-          let inside : k < length charges = (let a = length-left shape.charge once settled_signals in let b = length-left shape.charge charges settled_signals in omega arith) in
-          left-at shape.charge once settled_signals k d (let b = length-left shape.charge charges settled_signals in omega arith)
-          ∙ ap (λ s. charge_left (slice_index_or shape.charge k 0) s (signal_at settled_signals k)) (left-at shape.charge charges settled_signals k undriven inside)
-          ∙ left-twice (slice_index_or shape.charge k 0) (signal_at charges k) (signal_at settled_signals k)
-          ∙ sym (left-at shape.charge charges settled_signals k d inside))
+      let inside : k < length charges = (let a = length-left shape.charge once settled_signals in let b = length-left shape.charge charges settled_signals in omega arith) in
+      left-at shape.charge once settled_signals k d (let b = length-left shape.charge charges settled_signals in omega arith)
+      ∙ ap (λ s. charge_left (slice_index_or shape.charge k 0) s (signal_at settled_signals k)) (left-at shape.charge charges settled_signals k undriven inside)
+      ∙ left-twice (slice_index_or shape.charge k 0) (signal_at charges k) (signal_at settled_signals k)
+      ∙ sym (left-at shape.charge charges settled_signals k d inside))

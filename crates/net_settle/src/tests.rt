@@ -31,67 +31,14 @@ fn are_charge_levels(levels: &[u8]) -> bool
     true
 }
 
-/// The lists of an island.
-#[derive(Drop)]
-struct Island {
-    shape: Shape,
-    own: Vec<Range>,
-    on: Vec<Conduct>,
-    charges: Vec<Range>,
-    driven: Vec<Range>,
-    out: Vec<Range>,
-    scratch: Scratch,
-}
-
-/// An island of plain nets, whose triregs start with unknown charges.
-fn island(alloc: Global, levels: &[u8], links: &[Link]) -> Result<Island, AllocError> {
-    let nets = levels.len();
-    let mut charges = Vec::new(alloc);
-    for level in levels {
-        let level = (*level % 8) as i8;
-        charges.push(Range::new(-level, level))?;
+/// Signals by their bounds.
+fn ranges(rt: &impl Abort, alloc: Global, bounds: &[(i8, i8)]) -> Result<Vec<Range>, AllocError> {
+    let mut all = Vec::new(alloc);
+    for (lo, hi) in bounds {
+        assert!(rt; -7 <= *lo && *lo <= *hi && *hi <= 7);
+        all.push(Range::new(*lo, *hi))?;
     }
-    Ok(Island {
-        shape: Shape {
-            kinds: KindList::from_vec(vec![in alloc; Kind::Plain; nets]?),
-            charge: LevelList::from_vec(levels.to_vec(alloc)?),
-            links: LinkList::from_vec(links.to_vec(alloc)?),
-        },
-        own: vec![in alloc; Range::new(0, 0); nets]?,
-        on: vec![in alloc; Conduct::On; links.len()]?,
-        charges,
-        driven: vec![in alloc; Range::new(0, 0); nets]?,
-        out: vec![in alloc; Range::new(0, 0); nets]?,
-        scratch: Scratch::new(alloc),
-    })
-}
-
-/// Settles an island that meets the conditions.
-fn settled(rt: &impl Abort, island: &mut Island) -> Result<(), AllocError> {
-    let nets = island.own.len();
-    let kinds = island.shape.kinds.as_slice().len();
-    let levels = island.shape.charge.as_slice();
-    let links = island.shape.links.as_slice();
-    assert!(rt; nets <= 100_000);
-    assert_eq!(rt; kinds, nets);
-    assert_eq!(rt; levels.len(), nets);
-    assert_eq!(rt; links.len(), island.on.len());
-    assert_eq!(rt; island.charges.len(), nets);
-    assert_eq!(rt; island.driven.len(), nets);
-    assert_eq!(rt; island.out.len(), nets);
-    assert!(rt; ends_within(links, nets));
-    assert!(rt; are_charge_levels(levels));
-    island.scratch.reserve(nets as u32)?;
-    settle(
-        &island.shape,
-        island.own.as_slice(),
-        island.on.as_slice(),
-        island.charges.as_mut_slice(),
-        island.driven.as_mut_slice(),
-        island.out.as_mut_slice(),
-        &mut island.scratch,
-    );
-    Ok(())
+    Ok(all)
 }
 
 /// The signals as `%v` prints them, with a blank after each.
@@ -104,92 +51,192 @@ fn texts(alloc: Global, signals: &[Range]) -> Result<Vec<u8>, AllocError> {
     Ok(all)
 }
 
-fn shows(rt: &impl Abort, alloc: Global, island: &Island, text: &[u8]) -> Result<(), AllocError> {
-    assert_eq!(rt; texts(alloc, island.out.as_slice())?.as_slice(), text);
+/// An island of plain nets, and what it settles to.
+struct Case {
+    levels: &'static [u8],
+    links: &'static [Link],
+    on: &'static [Conduct],
+    own: &'static [(i8, i8)],
+    charges: &'static [(i8, i8)],
+    signals: &'static str,
+    left: &'static str,
+}
+
+fn settles(rt: &impl Abort, alloc: Global, case: &Case) -> Result<(), AllocError> {
+    let nets = case.levels.len();
+    let shape = Shape {
+        kinds: KindList::from_vec(vec![in alloc; Kind::Plain; nets]?),
+        charge: LevelList::from_vec(case.levels.to_vec(alloc)?),
+        links: LinkList::from_vec(case.links.to_vec(alloc)?),
+    };
+    let own = ranges(rt, alloc, case.own)?;
+    let mut charges = ranges(rt, alloc, case.charges)?;
+    let mut driven = ranges(rt, alloc, case.own)?;
+    let mut out = ranges(rt, alloc, case.own)?;
+    assert!(rt; nets <= 100);
+    assert_eq!(rt; shape.kinds.as_slice().len(), nets);
+    assert_eq!(rt; shape.charge.as_slice().len(), nets);
+    assert_eq!(rt; shape.links.as_slice().len(), case.on.len());
+    assert_eq!(rt; own.len(), nets);
+    assert_eq!(rt; charges.len(), nets);
+    assert_eq!(rt; driven.len(), nets);
+    assert_eq!(rt; out.len(), nets);
+    assert!(rt; ends_within(shape.links.as_slice(), nets));
+    assert!(rt; are_charge_levels(shape.charge.as_slice()));
+    let mut scratch = Scratch::new(alloc);
+    scratch.reserve(nets as u32)?;
+    settle(
+        &shape,
+        own.as_slice(),
+        case.on,
+        charges.as_mut_slice(),
+        driven.as_mut_slice(),
+        out.as_mut_slice(),
+        &mut scratch,
+    );
+    assert_eq!(rt;
+        texts(alloc, out.as_slice())?.as_slice(),
+        case.signals.as_bytes()
+    );
+    assert_eq!(rt;
+        texts(alloc, charges.as_slice())?.as_slice(),
+        case.left.as_bytes()
+    );
     Ok(())
 }
 
-const fn link(a: u32, b: u32, resistive: bool) -> Link {
-    Link { a, b, resistive }
-}
+const PLAIN: Link = Link {
+    a: 0,
+    b: 1,
+    resistive: false,
+};
+
+const REDUCING: [Link; 4] = [
+    Link {
+        a: 0,
+        b: 1,
+        resistive: true,
+    },
+    Link {
+        a: 1,
+        b: 2,
+        resistive: true,
+    },
+    Link {
+        a: 3,
+        b: 2,
+        resistive: true,
+    },
+    Link {
+        a: 0,
+        b: 4,
+        resistive: false,
+    },
+];
+
+const LOOP: [Link; 3] = [
+    PLAIN,
+    Link {
+        a: 1,
+        b: 2,
+        resistive: false,
+    },
+    Link {
+        a: 1,
+        b: 2,
+        resistive: false,
+    },
+];
+
+const UNKNOWN_FIRST: [Conduct; 3] = [Conduct::Unknown, Conduct::On, Conduct::On];
 
 #[test]
-fn each_resistive_switch_weakens_supply(rt: HostRuntime) -> Result<(), Fail> {
-    let alloc = rt.alloc();
-    let mut one = island(
-        alloc,
-        &[0; 5],
-        &[
-            link(0, 1, true),
-            link(1, 2, true),
-            link(3, 2, true),
-            link(0, 4, false),
-        ],
-    )?;
-    assert_eq!(rt; one.own.len(), 5);
-    one.own[0] = Range::new(7, 7);
-    settled(&rt, &mut one)?;
-    shows(&rt, alloc, &one, b"Su1 Pu1 We1 Me1 St1 ")?;
-    Ok(())
-}
-
-#[test]
-fn nets_of_a_loop_keep_no_dead_value(rt: HostRuntime) -> Result<(), Fail> {
-    let alloc = rt.alloc();
-    let mut trap = island(
-        alloc,
-        &[0; 3],
-        &[link(0, 1, false), link(1, 2, false), link(1, 2, false)],
-    )?;
-    assert_eq!(rt; trap.own.len(), 3);
-    assert_eq!(rt; trap.on.len(), 3);
-    trap.on[0] = Conduct::Unknown;
-    for (level, text) in [
-        (-3, b"We0 WeL WeL "),
-        (5, b"Pu1 PuH PuH "),
-        (3, b"We1 WeH WeH "),
-        (-5, b"Pu0 PuL PuL "),
-    ] {
-        trap.own[0] = Range::new(level, level);
-        settled(&rt, &mut trap)?;
-        shows(&rt, alloc, &trap, text)?;
+fn settles_islands_of_plain_nets_and_triregs(rt: HostRuntime) -> Result<(), Fail> {
+    let cases = [
+        Case {
+            levels: &[0; 5],
+            links: &REDUCING,
+            on: &[Conduct::On; 4],
+            own: &[(7, 7), (0, 0), (0, 0), (0, 0), (0, 0)],
+            charges: &[(0, 0); 5],
+            signals: "Su1 Pu1 We1 Me1 St1 ",
+            left: "HiZ HiZ HiZ HiZ HiZ ",
+        },
+        Case {
+            levels: &[0; 3],
+            links: &LOOP,
+            on: &UNKNOWN_FIRST,
+            own: &[(-3, -3), (0, 0), (0, 0)],
+            charges: &[(0, 0); 3],
+            signals: "We0 WeL WeL ",
+            left: "HiZ HiZ HiZ ",
+        },
+        Case {
+            levels: &[0; 3],
+            links: &LOOP,
+            on: &UNKNOWN_FIRST,
+            own: &[(5, 5), (0, 0), (0, 0)],
+            charges: &[(0, 0); 3],
+            signals: "Pu1 PuH PuH ",
+            left: "HiZ HiZ HiZ ",
+        },
+        Case {
+            levels: &[4],
+            links: &[],
+            on: &[],
+            own: &[(-3, -3)],
+            charges: &[(4, 4)],
+            signals: "We0 ",
+            left: "La0 ",
+        },
+        Case {
+            levels: &[4],
+            links: &[],
+            on: &[],
+            own: &[(0, 3)],
+            charges: &[(-4, -4)],
+            signals: "LaX ",
+            left: "LaX ",
+        },
+        Case {
+            levels: &[1, 4],
+            links: &[PLAIN],
+            on: &[Conduct::On],
+            own: &[(0, 0); 2],
+            charges: &[(-1, -1), (4, 4)],
+            signals: "La1 La1 ",
+            left: "Sm1 La1 ",
+        },
+        Case {
+            levels: &[1, 4],
+            links: &[PLAIN],
+            on: &[Conduct::Off],
+            own: &[(0, 0); 2],
+            charges: &[(1, 1), (4, 4)],
+            signals: "Sm1 La1 ",
+            left: "Sm1 La1 ",
+        },
+    ];
+    for case in cases.iter() {
+        settles(&rt, rt.alloc(), case)?;
     }
     Ok(())
 }
 
-#[test]
-fn a_charge_meets_a_driver(rt: HostRuntime) -> Result<(), Fail> {
-    let alloc = rt.alloc();
-    let mut large = island(alloc, &[4], &[])?;
-    assert_eq!(rt; large.own.len(), 1);
-    assert_eq!(rt; large.charges.len(), 1);
-    large.charges[0] = Range::new(4, 4);
-    for (lo, hi, text, left) in [
-        (-3, -3, b"We0 ", Range::new(-4, -4)),
-        (0, 0, b"La0 ", Range::new(-4, -4)),
-        (0, 3, b"LaX ", Range::new(-4, 4)),
-        (0, 3, b"LaX ", Range::new(-4, 4)),
-    ] {
-        large.own[0] = Range::new(lo, hi);
-        settled(&rt, &mut large)?;
-        shows(&rt, alloc, &large, text)?;
-        assert_eq!(rt; large.charges[0], left);
-    }
-    Ok(())
+fn crosses<T: Send + Sync>(value: T) -> T {
+    value
 }
 
 #[test]
-fn a_large_charge_moves_a_small_one(rt: HostRuntime) -> Result<(), Fail> {
+fn a_shape_may_be_shared(rt: HostRuntime) -> Result<(), Fail> {
     let alloc = rt.alloc();
-    let mut pair = island(alloc, &[1, 4], &[link(0, 1, false)])?;
-    assert_eq!(rt; pair.charges.len(), 2);
-    assert_eq!(rt; pair.on.len(), 1);
-    pair.charges[0] = Range::new(-1, -1);
-    pair.charges[1] = Range::new(4, 4);
-    settled(&rt, &mut pair)?;
-    shows(&rt, alloc, &pair, b"La1 La1 ")?;
-    pair.on[0] = Conduct::Off;
-    settled(&rt, &mut pair)?;
-    shows(&rt, alloc, &pair, b"Sm1 La1 ")?;
+    let shape = crosses(Shape {
+        kinds: KindList::from_vec(vec![in alloc; Kind::And]?),
+        charge: LevelList::from_vec(vec![in alloc; 0]?),
+        links: LinkList::from_vec(Vec::new(alloc)),
+    });
+    assert_eq!(rt; shape.kinds.into_vec().as_slice(), [Kind::And].as_slice());
+    assert_eq!(rt; shape.charge.into_vec().as_slice(), [0].as_slice());
+    assert_eq!(rt; shape.links.into_vec().len(), 0);
     Ok(())
 }

@@ -12,12 +12,12 @@ loop-net-preserved c =
     let n = c.loop-net.net in
     let levels = c.args.levels.now in
     let charge =
-        c.index-charges-net.is ∙ get_or_default c.loop-net.charges n c.index-charges-net.result undriven (omega arith)
-        ∙ c.loop-net.invariant.1 n undriven (omega arith) in
+    c.index-charges-net.is ∙ get_or_default c.loop-net.charges n c.index-charges-net.result undriven (omega arith)
+    ∙ c.loop-net.invariant.1 n undriven (omega arith) in
     let signal = c.index-signals-net.is ∙ get_or_default c.args.signals.now n c.index-signals-net.result undriven (omega arith) in
     let left =
-        c.charge_left.ensures.value ∙ ap (λ s. charge_left (get_or levels n 0) s c.index-signals-net.result) charge
-        ∙ ap (charge_left (get_or levels n 0) (signal_at c.args.charges.now n)) signal in (
+    c.charge_left.ensures.value ∙ ap (λ s. charge_left (get_or levels n 0) s c.index-signals-net.result) charge
+    ∙ ap (charge_left (get_or levels n 0) (signal_at c.args.charges.now n)) signal in (
       λ k d lt. elim (cases_eq k n) [
         | inl e ↦
             ap (λ i. get_or (slice_set c.loop-net.charges n c.charge_left.result) i d) e
@@ -31,8 +31,8 @@ loop-net-preserved c =
             let here = c.charge_left.ensures.charge (λ z. some (ap (λ i. get_or levels i 0) e ∙ z)) in
             let P : ℕ → Type 0 = λ i. IsCharge (get_or levels i 0) c.charge_left.result in
             subst (IsCharge (get_or levels k 0))
-                (sym (ap (λ i. get_or (slice_set c.loop-net.charges n c.charge_left.result) i d) e ∙ get_or-set_same c.loop-net.charges n c.charge_left.result d (omega arith)))
-                (subst P (sym e) here)
+            (sym (ap (λ i. get_or (slice_set c.loop-net.charges n c.charge_left.result) i d) e ∙ get_or-set_same c.loop-net.charges n c.charge_left.result d (omega arith)))
+            (subst P (sym e) here)
         | inr ne ↦
             subst (IsCharge (get_or levels k 0)) (sym (get_or-set_other c.loop-net.charges n k c.charge_left.result d ne))
             (c.loop-net.invariant.2 k d (omega arith) some)

@@ -49,7 +49,7 @@ returns-clause-driven_settled c =
     c.requires.links c.requires.own
     (first_driven c.args.own.now c.args.driven.now c.index-own-0.result c.requires.own c.requires.driven_nets c.index-own-0.is)
     c.index-driven-0.is
-    (subst IsSignal c.first.view_is record { low = i.0; order = i.1; high = i.2; })
+    (subst IsSignal c.first.view_is record { low = i.0; order = i.1; high = i.2 })
 
 pub returns-clause-charged : goal.returns-clause-charged
 returns-clause-charged c =
@@ -59,12 +59,12 @@ returns-clause-charged c =
     let i = c.first.invariant in
     let j = c.second.invariant in
     let is = first_driven c.args.own.now c.args.driven.now c.index-own-0.result c.requires.own c.requires.driven_nets c.index-own-0.is in
-    let first = subst IsSignal c.first.view_is record { low = i.0; order = i.1; high = i.2; } in
-    let second = subst IsSignal c.second.view_is record { low = j.0; order = j.1; high = j.2; } in
+    let first = subst IsSignal c.first.view_is record { low = i.0; order = i.1; high = i.2 } in
+    let second = subst IsSignal c.second.view_is record { low = j.0; order = j.1; high = j.2 } in
     let charged =
-        c.charge_signals.ensures
-        ∙ ap (λ k. charged_signals k c.as_slice-levels.result.now c.args.own.now c.args.charges.now driven) c.as_slice.ensures
-        ∙ ap (λ l. charged_signals kinds l c.args.own.now c.args.charges.now driven) c.as_slice-levels.ensures in
+    c.charge_signals.ensures
+    ∙ ap (λ k. charged_signals k c.as_slice-levels.result.now c.args.own.now c.args.charges.now driven) c.as_slice.ensures
+    ∙ ap (λ l. charged_signals kinds l c.args.own.now c.args.charges.now driven) c.as_slice-levels.ensures in
     let one : length c.charge_signals.new.out ≡ 1 = omega arith in
     record {
       second = c.charge_signals.new.out;

@@ -54,13 +54,13 @@ returns-clause-charged c =
     let switches = switches_of c.args.shape.now c.args.on.now in
     let kinds = c.args.shape.now.kinds in
     let second =
-        settled-between (zip c.as_slice-links.result.now c.args.on.now) c.charge_signals.new.out c.settle_both-2.new.lower c.settle_both-2.new.upper
-            (length c.charge_signals.new.out) c.settle_both-2.ensures.lower c.settle_both-2.ensures.upper (omega arith)
-        ∙ ap (λ l. settled (zip l c.args.on.now) c.charge_signals.new.out) c.as_slice-links.ensures in
+    settled-between (zip c.as_slice-links.result.now c.args.on.now) c.charge_signals.new.out c.settle_both-2.new.lower c.settle_both-2.new.upper
+    (length c.charge_signals.new.out) c.settle_both-2.ensures.lower c.settle_both-2.ensures.upper (omega arith)
+    ∙ ap (λ l. settled (zip l c.args.on.now) c.charge_signals.new.out) c.as_slice-links.ensures in
     let charge =
-        c.charge_signals.ensures
-        ∙ ap (λ k. charged_signals k c.as_slice-levels.result.now c.args.own.now c.args.charges.now c.drive.new.driven) c.as_slice.ensures
-        ∙ ap (λ l. charged_signals kinds l c.args.own.now c.args.charges.now c.drive.new.driven) c.as_slice-levels.ensures in
+    c.charge_signals.ensures
+    ∙ ap (λ k. charged_signals k c.as_slice-levels.result.now c.args.own.now c.args.charges.now c.drive.new.driven) c.as_slice.ensures
+    ∙ ap (λ l. charged_signals kinds l c.args.own.now c.args.charges.now c.drive.new.driven) c.as_slice-levels.ensures in
     record {
       second = settled switches c.charge_signals.new.out;
       settled = subst (λ (own : List Signal). AreSettled switches own (settled switches c.charge_signals.new.out)) charge
