@@ -15,7 +15,9 @@ use level_range::{Conduct, Range};
 fn take(bounds: &mut [Level], net: usize, comes: Level, level: Level) -> bool
     requires { net < length bounds.old }
     ensures bounds { bounds.new ≡ taken level net comes bounds.old }
-    ensures given { MatchBool result ((at bounds.old net ≡ pos 0) × (comes ≡ level)) (at bounds.old net ≡ pos 0 → comes ≢ level) }
+    ensures given { MatchBool result
+        ((at bounds.old net ≡ pos 0) × (comes ≡ level))
+        (at bounds.old net ≡ pos 0 → comes ≢ level) }
 {
     if bounds[net] != Level::zero(0) {
         return false;
@@ -52,7 +54,8 @@ fn take_carried(
     requires first { link.a < length bounds.old }
     requires second { link.b < length bounds.old }
     requires some { level ≢ pos 0 }
-    ensures spreads { (switches : List Switch) → Contains switches (link, conduct) → Spreads side switches level bounds.old bounds.new }
+    ensures spreads { (switches : List Switch) → Contains switches (link, conduct)
+        → Spreads side switches level bounds.old bounds.new }
     ensures moves { Moves result (LinkRests side link conduct bounds.old level) bounds.old bounds.new }
 {
     let a = link.a as usize;
@@ -78,7 +81,8 @@ fn walk(
     requires ends { EndsWithin (length bounds.old) links.now }
     requires some { level ≢ pos 0 }
     ensures spreads { Spreads side (zip links.now on.now) level bounds.old bounds.new }
-    ensures moves { Moves result (LinksRest side (zip links.now on.now) bounds.old level) bounds.old bounds.new }
+    ensures moves { Moves result
+        (LinksRest side (zip links.now on.now) bounds.old level) bounds.old bounds.new }
 {
     let mut changed = false;
     let count = links.len();

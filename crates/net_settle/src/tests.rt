@@ -52,6 +52,7 @@ fn texts(alloc: Global, signals: &[Range]) -> Result<Vec<u8>, AllocError> {
 }
 
 /// An island of plain nets, and what it settles to.
+#[derive(Drop)]
 struct Case {
     levels: &'static [u8],
     links: &'static [Link],
