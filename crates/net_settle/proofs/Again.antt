@@ -1,23 +1,17 @@
 -- Bounds that settled with charges settle again with what is left of the charges.
-use Rattle.std.proofs.Common.{◌≡◌, ◌≢◌, ℕ, zero, suc, ◌+◌, ◌*◌, ◌<◌, ◌≤◌, Bool, true, false, cond, List, length, refl, ap, sym, ◌∙◌, subst, arith, inl, inr}
-use Rattle.std.specs.Prelude.{ℤ, pos, negsuc, ◌≤ℤ◌, ◌⊎◌, int_lt, nat_eq}
+use Rattle.std.proofs.Common.{◌≡◌, ℕ, zero, suc, ◌+◌, ◌*◌, ◌<◌, ◌≤◌, List, length, refl, ap, sym, ◌∙◌, subst, arith, inl, inr}
+use Rattle.std.specs.Prelude.{ℤ, pos, ◌⊎◌, int_lt}
 use Rattle.std.proofs.lemmas.Int.{ints}
-use Rattle.std.proofs.lemmas.Bool.{cases_eq, cases_lt, cases_Bool}
-use Rattle.level_range.specs.Signal.{Signal, undriven, IsSignal, below}
-use Rattle.level_range.specs.declared.range.Kind.{Kind}
-use Rattle.level_range.specs.declared.range.Kind.TheVariants.{Plain, And, Or}
-use Rattle.level_range.specs.Combine.{better_low, better_high, joined}
-use Rattle.level_range.specs.Reduce.{hull_of}
+use Rattle.std.proofs.lemmas.Bool.{cases_lt, cases_Bool}
+use Rattle.level_range.specs.Signal.{below}
 use Rattle.level_range.proofs.Better.{lower, upper}
 use Rattle.net_settle.specs.declared.side.Side.{Side}
 use Rattle.net_settle.specs.declared.side.Side.TheVariants.{Lower, Upper}
-use Rattle.net_settle.specs.Bounds.{Switch, at, better, bound_of, favoured, opposed}
-use Rattle.net_settle.specs.Settling.{Brings, Comes, IsBest, IsWalk, IsSettled}
-use Rattle.net_settle.specs.Charges.{level, excludes_zero, widened, widened_down, contribution, charge_bound, charge_left}
-use Rattle.net_settle.specs.Conditions.{IsCharge}
+use Rattle.net_settle.specs.Bounds.{Switch, at, better, favoured, opposed}
+use Rattle.net_settle.specs.Settling.{IsWalk, IsSettled}
+use Rattle.net_settle.specs.Charges.{charge_bound}
 use Rattle.net_settle.specs.Progress.{rank}
-use Rattle.net_settle.proofs.Ranks.{Signed, signed, none, first, second, rank-none, rank-injective, rank-favoured, rank-opposed, better-from_rank}
-use Rattle.net_settle.proofs.Walks.{settled-most}
+use Rattle.net_settle.proofs.Ranks.{Signed, signed, none, first, second, rank-none, rank-favoured, rank-opposed, better-from_rank}
 
 -- bounds stay finished for other own bounds that are no better, and that are the same where the bound is the own one
 module _ (side : Side) (switches : List Switch) (own next bounds : List ℤ)

@@ -1,5 +1,5 @@
 -- An island of one net without links.
-use Rattle.std.proofs.Common.{◌≡◌, ℕ, ◌<◌, Bool, true, false, cond, length, List, [], get_or, slice_set, arith, ap, sym, ◌∙◌, subst, refl, length-set, get_or-set_same}
+use Rattle.std.proofs.Common.{◌≡◌, ℕ, true, false, cond, length, List, [], get_or, slice_set, arith, ap, sym, ◌∙◌, subst, length-set, get_or-set_same}
 use Rattle.std.specs.Prelude.{zip, All}
 use Rattle.std.proofs.lemmas.List.{get_or_default}
 use Rattle.level_range.specs.declared.range.Conduct.{Conduct}

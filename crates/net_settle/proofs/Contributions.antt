@@ -1,13 +1,13 @@
 -- What charges contribute, by bounds, and that what is left of them changes no settled bound.
-use Rattle.std.proofs.Common.{◌≡◌, ◌≢◌, ℕ, zero, suc, ◌+◌, ◌*◌, ◌<◌, ◌≤◌, Bool, true, false, cond, List, length, refl, ap, sym, ◌∙◌, subst, arith, inl, inr}
+use Rattle.std.proofs.Common.{◌≡◌, ◌≢◌, ℕ, zero, suc, ◌≤◌, Bool, true, false, cond, refl, ap, sym, ◌∙◌, subst, arith, inl, inr}
 use Rattle.std.specs.Prelude.{ℤ, pos, negsuc, ◌≤ℤ◌, ◌⊎◌, int_lt, nat_eq, ◌||◌}
 use Rattle.std.specs.Int.{int_min, int_max}
 use Rattle.std.proofs.lemmas.Int.{ints, clamps}
-use Rattle.std.proofs.lemmas.Bool.{cases_eq, cases_lt, cases_Bool}
+use Rattle.std.proofs.lemmas.Bool.{cases_Bool}
 use Rattle.level_range.specs.Signal.{Signal, undriven, IsSignal, below}
 use Rattle.level_range.specs.declared.range.Kind.{Kind}
 use Rattle.level_range.specs.declared.range.Kind.TheVariants.{Plain, And, Or}
-use Rattle.level_range.specs.Combine.{better_low, better_high, lower_of, upper_of, joined}
+use Rattle.level_range.specs.Combine.{lower_of, upper_of, joined}
 use Rattle.level_range.specs.Reduce.{hull_of}
 use Rattle.level_range.proofs.Better.{lower, upper}
 use Rattle.level_range.proofs.Combination.{lower_of-low, upper_of-high, lower_of-upper_of}
@@ -15,10 +15,10 @@ use Rattle.level_range.proofs.Reduction.{undriven-is}
 use Rattle.net_settle.specs.declared.side.Side.{Side}
 use Rattle.net_settle.specs.declared.side.Side.TheVariants.{Lower, Upper}
 use Rattle.net_settle.specs.Bounds.{better, bound_of, favoured, is_favoured}
-use Rattle.net_settle.specs.Charges.{level, excludes_zero, widened, widened_down, contribution, charge_bound, charge_left, chosen}
+use Rattle.net_settle.specs.Charges.{level, excludes_zero, widened, contribution, charge_bound, charge_left, chosen}
 use Rattle.net_settle.specs.Conditions.{IsCharge, IsChargeLevel}
 use Rattle.net_settle.specs.Progress.{rank}
-use Rattle.net_settle.proofs.ChargeBounds.{charge_bound-order, charge_left-some, below-order}
+use Rattle.net_settle.proofs.ChargeBounds.{charge_left-some}
 use Rattle.net_settle.proofs.SameSignal.{same_signal}
 use Rattle.net_settle.proofs.Again.{IsSign, again_better, charge_bound-sign}
 

@@ -1,8 +1,8 @@
 -- A finished lower bound is at most the finished upper bound.
-use Rattle.std.proofs.Common.{◌≡◌, ◌≢◌, ℕ, zero, suc, ◌+◌, ◌-◌, ◌*◌, ◌<◌, ◌≤◌, Bool, true, false, cond, List, [], ◌∷◌, length, refl, ap, sym, ◌∙◌, subst, arith, inl, inr}
-use Rattle.std.specs.Prelude.{ℤ, pos, negsuc, ◌≤ℤ◌, ◌<ℤ◌, ◌⊎◌, Contains, unsigned_abs, int_lt}
+use Rattle.std.proofs.Common.{◌≡◌, ◌≢◌, ℕ, zero, suc, ◌+◌, ◌*◌, ◌<◌, ◌≤◌, Bool, true, false, cond, List, length, refl, ap, sym, ◌∙◌, subst, arith, inl, inr}
+use Rattle.std.specs.Prelude.{ℤ, pos, negsuc, ◌≤ℤ◌, ◌⊎◌, unsigned_abs, int_lt}
 use Rattle.std.proofs.lemmas.Int.{ints}
-use Rattle.std.proofs.lemmas.Bool.{cases_eq, cases_lt, cases_Bool}
+use Rattle.std.proofs.lemmas.Bool.{cases_Bool}
 use Rattle.level_range.specs.declared.range.Conduct.{Conduct}
 use Rattle.level_range.specs.declared.range.Conduct.TheVariants.{On, Off, Unknown}
 use Rattle.level_range.specs.Reduce.{reduced_level}
@@ -11,9 +11,8 @@ use Rattle.net_settle.specs.declared.shape.Link.{Link}
 use Rattle.net_settle.specs.declared.side.Side.{Side}
 use Rattle.net_settle.specs.declared.side.Side.TheVariants.{Lower, Upper}
 use Rattle.net_settle.specs.Bounds.{Switch, at, carried, is_favoured}
-use Rattle.net_settle.specs.Settling.{Joins, Brings, IsWalk, IsSettled}
+use Rattle.net_settle.specs.Settling.{IsWalk, IsSettled}
 use Rattle.net_settle.specs.Progress.{rank, low_rank, high_rank}
-use Rattle.net_settle.proofs.Ranks.{rank-none}
 use Rattle.net_settle.proofs.Walks.{settled-most, bounds-most, has_net}
 
 -- one side and the other

@@ -1,8 +1,8 @@
 -- Laws of settling, over the definitions.
-use Rattle.std.proofs.Common.{◌≡◌, ◌≢◌, ℕ, zero, suc, ◌+◌, ◌<◌, ◌≤◌, List, [], length, get_or, refl, ap, sym, ◌∙◌, subst, arith, inl, inr}
-use Rattle.std.specs.Prelude.{ℤ, pos, negsuc, ◌≤ℤ◌, All, map}
+use Rattle.std.proofs.Common.{◌≡◌, ℕ, zero, suc, ◌<◌, ◌≤◌, List, length, get_or, refl, ap, sym, ◌∙◌, subst, arith}
+use Rattle.std.specs.Prelude.{ℤ, pos, negsuc, ◌≤ℤ◌, All}
 use Rattle.std.proofs.lemmas.Int.{ints}
-use Rattle.std.proofs.lemmas.List.{same_lists, get_or_default, length-map}
+use Rattle.std.proofs.lemmas.List.{same_lists, get_or_default}
 use Rattle.level_range.specs.Signal.{Signal, undriven, IsSignal}
 use Rattle.net_settle.specs.declared.side.Side.{Side}
 use Rattle.net_settle.specs.declared.side.Side.TheVariants.{Lower, Upper}

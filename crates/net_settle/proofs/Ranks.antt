@@ -1,17 +1,16 @@
 -- The ranks of bounds.
-use Rattle.std.proofs.Common.{◌≡◌, ℕ, zero, suc, ◌+◌, ◌-◌, ◌*◌, ◌<◌, ◌≤◌, add-zero, Bool, true, false, cond, refl, ap, sym, ◌∙◌, arith, inl, inr}
-use Rattle.std.specs.Prelude.{ℤ, pos, negsuc, ◌≤ℤ◌, ◌<ℤ◌, int_lt, unsigned_abs, ◌⊎◌}
+use Rattle.std.proofs.Common.{◌≡◌, ℕ, zero, suc, ◌+◌, ◌*◌, ◌<◌, ◌≤◌, Bool, true, false, cond, refl, ap, arith}
+use Rattle.std.specs.Prelude.{ℤ, pos, negsuc, ◌≤ℤ◌}
 use Rattle.std.proofs.lemmas.Int.{ints}
 use Rattle.level_range.specs.declared.range.Conduct.{Conduct}
 use Rattle.level_range.specs.declared.range.Conduct.TheVariants.{On, Off, Unknown}
 use Rattle.level_range.specs.Combine.{better_low, better_high}
 use Rattle.level_range.specs.Reduce.{reduced_level, reduced_strength}
-use Rattle.level_range.specs.Signal.{below}
 use Rattle.net_settle.specs.declared.shape.Link.{Link}
 use Rattle.net_settle.specs.declared.side.Side.{Side}
 use Rattle.net_settle.specs.declared.side.Side.TheVariants.{Lower, Upper}
 use Rattle.net_settle.specs.Bounds.{better, is_favoured, favoured, opposed, carried}
-use Rattle.net_settle.specs.Progress.{rank, low_rank, high_rank}
+use Rattle.net_settle.specs.Progress.{rank}
 
 pub rank-injective : (side : Side) (x y : ℤ) → rank side x ≡ rank side y → x ≡ y
 rank-injective Lower (pos zero) (pos zero) e = refl

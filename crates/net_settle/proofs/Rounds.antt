@@ -1,16 +1,16 @@
 -- What settling by levels gives is settled.
-use Rattle.std.proofs.Common.{◌≡◌, ◌≢◌, ℕ, zero, suc, ◌+◌, ◌-◌, ◌*◌, ◌<◌, ◌≤◌, Bool, true, false, cond, ◌&&◌, List, [], ◌∷◌, length, get_or, refl, ap, sym, ◌∙◌, subst, arith, inl, inr}
-use Rattle.std.specs.Prelude.{ℤ, pos, negsuc, ◌⊎◌, slice_set, Contains, replicate}
+use Rattle.std.proofs.Common.{◌≡◌, ◌≢◌, ℕ, zero, suc, ◌+◌, ◌*◌, ◌<◌, ◌≤◌, true, false, List, [], ◌∷◌, length, refl, ap, sym, ◌∙◌, subst, arith, inl, inr}
+use Rattle.std.specs.Prelude.{ℤ, pos, ◌⊎◌, slice_set, Contains, replicate}
 use Rattle.std.specs.Ordering.{int_eq}
-use Rattle.std.proofs.lemmas.List.{get_or_past, set_past, length-set, get_or-replicate, length-replicate}
-use Rattle.std.proofs.lemmas.List.Elements.{Contains-append_left, Contains-append_right}
+use Rattle.std.proofs.lemmas.List.{get_or_past, set_past, get_or-replicate, length-replicate}
+use Rattle.std.proofs.lemmas.List.Elements.{Contains-append_right}
 use Rattle.std.proofs.lemmas.Bool.{cases_eq, cases_lt, cases_Bool}
 use Rattle.std.proofs.lemmas.Bool.Decides.{Decides-int_eq, not_from_Decides}
 use Rattle.level_range.specs.declared.range.Conduct.{Conduct}
 use Rattle.net_settle.specs.declared.shape.Link.{Link}
 use Rattle.net_settle.specs.declared.side.Side.{Side}
-use Rattle.net_settle.specs.Bounds.{Switch, at, better, carried, favoured, opposed}
-use Rattle.net_settle.specs.Settling.{Joins, Brings, IsSettled}
+use Rattle.net_settle.specs.Bounds.{Switch, at, carried, favoured, opposed}
+use Rattle.net_settle.specs.Settling.{Joins, IsSettled}
 use Rattle.net_settle.specs.ByLevels.{taken, own_taken, carried_taken, rounds, spread, spread_from, settled_bounds}
 use Rattle.net_settle.specs.Progress.{rank, IsDone, without}
 use Rattle.net_settle.proofs.Ranks.{rank-none, rank-favoured, rank-opposed}

@@ -1,10 +1,9 @@
 -- Settling again with what is left of the charges gives the same signals and charges.
-use Rattle.std.proofs.Common.{◌≡◌, ◌≢◌, ℕ, zero, suc, ◌+◌, ◌<◌, ◌≤◌, Bool, true, false, cond, List, [], length, get_or, refl, ap, sym, ◌∙◌, subst, arith, inl, inr}
-use Rattle.std.specs.Prelude.{ℤ, pos, negsuc, ◌≤ℤ◌, ◌⊎◌, All, map, zip, nat_eq, slice_index_or}
-use Rattle.std.specs.List.{range_with_len}
-use Rattle.std.proofs.lemmas.List.{same_lists, get_or_default, get_or_past, length-map}
+use Rattle.std.proofs.Common.{◌≡◌, ◌≢◌, ℕ, zero, suc, ◌<◌, ◌≤◌, Bool, true, false, cond, List, length, get_or, refl, ap, sym, ◌∙◌, subst, arith, inl, inr}
+use Rattle.std.specs.Prelude.{ℤ, pos, ◌≤ℤ◌, All, zip, nat_eq, slice_index_or}
+use Rattle.std.proofs.lemmas.List.{same_lists, get_or_past}
 use Rattle.std.proofs.lemmas.List.FromFn.{length-map-range_with_len, get_or-map-range_with_len}
-use Rattle.std.proofs.lemmas.Bool.{cases_eq, cases_lt, cases_Bool}
+use Rattle.std.proofs.lemmas.Bool.{cases_lt}
 use Rattle.level_range.specs.declared.range.Conduct.{Conduct}
 use Rattle.level_range.specs.declared.range.Kind.{Kind}
 use Rattle.level_range.specs.declared.range.Kind.TheVariants.{Plain, And, Or}
@@ -14,14 +13,14 @@ use Rattle.net_settle.specs.declared.shape.Shape.{Shape}
 use Rattle.net_settle.specs.declared.side.Side.{Side}
 use Rattle.net_settle.specs.declared.side.Side.TheVariants.{Lower, Upper}
 use Rattle.net_settle.specs.Bounds.{Switch, at, bound_of, bounds_of}
-use Rattle.net_settle.specs.Settling.{IsSettled, AreSettled}
-use Rattle.net_settle.specs.ByLevels.{settled_bounds, settled}
+use Rattle.net_settle.specs.Settling.{IsSettled}
+use Rattle.net_settle.specs.ByLevels.{settled}
 use Rattle.net_settle.specs.Charges.{signal_at, contribution, charged_signals, chosen, chosen_signals, charge_left, charges_left, switches_of, driven_signals, island_signals}
 use Rattle.net_settle.specs.Conditions.{IsIsland, IsCharge, IsChargeLevel, AreCharges, WiredAlone}
 use Rattle.net_settle.specs.Progress.{rank}
 use Rattle.net_settle.proofs.Ranks.{rank-none}
 use Rattle.net_settle.specs.Charges.{excludes_zero}
-use Rattle.net_settle.proofs.Signals.{bounds_of-at, length-bounds_of, signals-most, signal_is}
+use Rattle.net_settle.proofs.Signals.{bounds_of-at, length-bounds_of, signal_is}
 use Rattle.net_settle.proofs.Walks.{settled-most}
 use Rattle.net_settle.proofs.Listed.{settled-alone}
 use Rattle.net_settle.proofs.Laws.{settled-are_settled, settled-only, settled-signals}

@@ -1,22 +1,17 @@
 -- Signals by their bounds, and lists of signals by their bounds.
-use Rattle.std.proofs.Common.{◌≡◌, ℕ, zero, suc, ◌+◌, ◌<◌, ◌≤◌, List, [], ◌∷◌, length, get_or, refl, ap, sym, ◌∙◌, subst, arith, inl, inr}
-use Rattle.std.specs.Prelude.{ℤ, pos, negsuc, ◌≤ℤ◌, map, All, slice_index_or}
-use Rattle.std.specs.List.{range_with_len}
+use Rattle.std.proofs.Common.{◌≡◌, ℕ, ◌≤◌, List, length, refl, ap, sym, ◌∙◌, subst, arith, inl, inr}
+use Rattle.std.specs.Prelude.{ℤ, pos, ◌≤ℤ◌, All}
 use Rattle.std.proofs.lemmas.Int.{ints}
-use Rattle.std.proofs.lemmas.List.{get_or_past, get_or-map, length-map, same_lists, get_or_default}
-use Rattle.std.proofs.lemmas.List.FromFn.{length-map-range_with_len, get_or-map-range_with_len, fill_by_all}
+use Rattle.std.proofs.lemmas.List.{get_or_past, get_or-map, length-map}
 use Rattle.std.proofs.lemmas.Bool.{cases_lt}
 use Rattle.level_range.specs.Signal.{Signal, undriven, IsSignal}
 use Rattle.net_settle.specs.declared.side.Side.{Side}
 use Rattle.net_settle.specs.declared.side.Side.TheVariants.{Lower, Upper}
 use Rattle.net_settle.specs.Bounds.{Switch, at, bound_of, bounds_of}
-use Rattle.net_settle.specs.Settling.{IsSettled, AreSettled}
-use Rattle.net_settle.specs.ByLevels.{settled_bounds, settled}
+use Rattle.net_settle.specs.Settling.{IsSettled}
 use Rattle.net_settle.specs.Charges.{signal_at}
 use Rattle.net_settle.specs.Progress.{rank}
 use Rattle.net_settle.proofs.Ranks.{rank-most}
-use Rattle.net_settle.proofs.Walks.{settled_once}
-use Rattle.net_settle.proofs.Rounds.{settled_bounds-settled}
 use Rattle.net_settle.proofs.InOrder.{in_order}
 
 -- finished bounds of both sides, as a list by sides

@@ -1,19 +1,18 @@
 -- What a net's taking of a level does to bounds on their way, and to what rests.
-use Rattle.std.proofs.Common.{◌≡◌, ◌≢◌, ℕ, zero, suc, ◌+◌, ◌-◌, ◌*◌, ◌<◌, ◌≤◌, Bool, true, false, cond, List, [], ◌∷◌, length, get_or, refl, ap, sym, ◌∙◌, subst, arith, inl, inr, add-one, not}
+use Rattle.std.proofs.Common.{◌≡◌, ◌≢◌, ℕ, suc, ◌+◌, ◌<◌, ◌≤◌, Bool, true, false, List, length, get_or, refl, ap, sym, ◌∙◌, subst, arith, inl, inr, not}
 use Rattle.std.specs.Ordering.{int_eq}
-use Rattle.std.specs.Prelude.{ℤ, pos, negsuc, ◌⊎◌, slice_set, Contains, map, MatchBool}
-use Rattle.std.proofs.lemmas.List.{get_or_past, get_or-map, length-map, set_past, length-set, get_or_default}
-use Rattle.std.proofs.lemmas.Bool.{cases_eq, cases_lt, cases_Bool, false≢true}
+use Rattle.std.specs.Prelude.{ℤ, pos, ◌⊎◌, slice_set, Contains, MatchBool}
+use Rattle.std.proofs.lemmas.List.{get_or-map, length-set, get_or_default}
+use Rattle.std.proofs.lemmas.Bool.{cases_eq, false≢true}
 use Rattle.level_range.specs.declared.range.Conduct.{Conduct}
-use Rattle.level_range.specs.Signal.{Signal, undriven}
+use Rattle.level_range.specs.Signal.{Signal}
 use Rattle.net_settle.specs.declared.shape.Link.{Link}
 use Rattle.net_settle.specs.declared.side.Side.{Side}
-use Rattle.net_settle.specs.declared.side.Side.TheVariants.{Lower, Upper}
 use Rattle.net_settle.specs.Bounds.{Switch, at, bound_of, bounds_of, carried}
 use Rattle.net_settle.specs.Settling.{Joins}
 use Rattle.net_settle.specs.ByLevels.{taken}
 use Rattle.net_settle.specs.Progress.{rank, IsDone, LinkRests, Spreads, Moves, without}
-use Rattle.net_settle.proofs.Walks.{Offered, at-other, at-same}
+use Rattle.net_settle.proofs.Walks.{at-other, at-same}
 use Rattle.net_settle.proofs.Rounds.{taken-takes, taken-stays, taken-moves, int_eq_cases, without-set}
 
 -- the bound of a net is that of its signal

@@ -1,14 +1,14 @@
 -- A walk over the links of an island.
-use Rattle.std.proofs.Common.{◌≡◌, ◌≢◌, ℕ, zero, suc, ◌+◌, ◌-◌, ◌*◌, ◌<◌, ◌≤◌, Bool, true, false, cond, List, [], ◌∷◌, length, get_or, refl, ap, sym, ◌∙◌, subst, arith, inl, inr}
-use Rattle.std.specs.Prelude.{ℤ, pos, ◌⊎◌, Contains, MatchBool, zip}
+use Rattle.std.proofs.Common.{◌≡◌, ℕ, ◌+◌, ◌-◌, ◌<◌, ◌≤◌, Bool, true, false, cond, List, length, get_or, refl, ap, sym, ◌∙◌, subst, arith, inl, inr}
+use Rattle.std.specs.Prelude.{ℤ, ◌⊎◌, Contains, MatchBool, zip}
 use Rattle.std.proofs.lemmas.List.{get_or_default}
-use Rattle.std.proofs.lemmas.Bool.{cases_eq, cases_lt, cases_Bool}
+use Rattle.std.proofs.lemmas.Bool.{cases_lt}
 use Rattle.std.proofs.lemmas.Slice.Zip.{length-zip, get_or-zip}
 use Rattle.level_range.specs.declared.range.Conduct.{Conduct}
 use Rattle.net_settle.specs.declared.shape.Link.{Link}
 use Rattle.net_settle.specs.declared.side.Side.{Side}
-use Rattle.net_settle.specs.Bounds.{Switch, at, carried}
-use Rattle.net_settle.specs.Progress.{rank, IsDone, LinkRests, LinksRest, Spreads, Moves, without}
+use Rattle.net_settle.specs.Bounds.{Switch}
+use Rattle.net_settle.specs.Progress.{LinkRests, LinksRest, Spreads, Moves, without}
 use Rattle.net_settle.proofs.Taking.{spreads-same, spreads-then}
 
 -- the link at place k was passed

@@ -1,13 +1,13 @@
 -- Bounds on the way to finished ones: what stays as nets take a level, and that finished bounds are the only ones.
-use Rattle.std.proofs.Common.{◌≡◌, ◌≢◌, ℕ, zero, suc, ◌+◌, ◌-◌, ◌*◌, ◌<◌, ◌≤◌, Bool, true, false, cond, List, [], ◌∷◌, length, get_or, refl, ap, sym, ◌∙◌, subst, arith, inl, inr, get_or-set_other, get_or-set_same}
-use Rattle.std.specs.Prelude.{ℤ, pos, negsuc, ◌≤ℤ◌, ◌⊎◌, slice_set, Contains}
+use Rattle.std.proofs.Common.{◌≡◌, ◌≢◌, ℕ, zero, suc, ◌+◌, ◌<◌, ◌≤◌, List, length, refl, ap, sym, ◌∙◌, subst, arith, inl, inr, get_or-set_other, get_or-set_same}
+use Rattle.std.specs.Prelude.{ℤ, pos, ◌⊎◌, slice_set, Contains}
 use Rattle.std.proofs.lemmas.List.{same_lists, get_or_past, get_or_default, length-set}
 use Rattle.std.proofs.lemmas.Bool.{cases_eq, cases_lt}
 use Rattle.level_range.specs.declared.range.Conduct.{Conduct}
 use Rattle.net_settle.specs.declared.shape.Link.{Link}
 use Rattle.net_settle.specs.declared.side.Side.{Side}
-use Rattle.net_settle.specs.Bounds.{Switch, at, better, carried}
-use Rattle.net_settle.specs.Settling.{Joins, Brings, Comes, IsBest, IsWalk, IsSettled}
+use Rattle.net_settle.specs.Bounds.{Switch, at, carried}
+use Rattle.net_settle.specs.Settling.{Joins, Brings, Comes, IsWalk, IsSettled}
 use Rattle.net_settle.specs.Progress.{rank, IsDone}
 use Rattle.net_settle.proofs.Ranks.{rank-none, rank-injective, rank-carried, carried-none, better-from_rank, rank-from_better}
 

@@ -2,9 +2,7 @@
 use Rattle.std.specs.Prelude.{ℕ, zero, suc, ℤ, pos, ◌&&◌, if◌then◌else◌, List, [], ◌∷◌, length, map, replicate, slice_set}
 use Rattle.std.specs.List.{range_with_len}
 use Rattle.std.specs.Ordering.{int_eq}
-use Rattle.level_range.specs.declared.range.Conduct.{Conduct}
 use Rattle.level_range.specs.Signal.{Signal}
-use Rattle.net_settle.specs.declared.shape.Link.{Link}
 use Rattle.net_settle.specs.declared.side.Side.{Side}
 use Rattle.net_settle.specs.declared.side.Side.TheVariants.{Lower, Upper}
 use Rattle.net_settle.specs.Bounds.{Switch, at, bounds_of, carried, favoured, opposed}

@@ -1,5 +1,5 @@
 -- Charges of triregs: what they contribute to the signals of an island, and what becomes of them. It is this project's own.
-use Rattle.std.specs.Prelude.{◌≡◌, ℕ, Bool, ℤ, pos, ◌||◌, int_lt, nat_eq, if◌then◌else◌, List, length, map, slice_index_or, zip}
+use Rattle.std.specs.Prelude.{ℕ, Bool, ℤ, pos, ◌||◌, int_lt, nat_eq, if◌then◌else◌, List, length, map, slice_index_or, zip}
 use Rattle.std.specs.List.{range_with_len}
 use Rattle.level_range.specs.declared.range.Conduct.{Conduct}
 use Rattle.level_range.specs.declared.range.Kind.{Kind}

@@ -1,5 +1,5 @@
 -- Only the bodies and their proofs use these: how far bounds have come while levels spread.
-use Rattle.std.specs.Prelude.{◌≡◌, ◌≢◌, ◌+◌, ◌*◌, ◌<◌, ◌≤◌, ℕ, zero, suc, Bool, ℤ, pos, negsuc, if◌then◌else◌, List, [], ◌∷◌, length, Contains, All, MatchBool}
+use Rattle.std.specs.Prelude.{◌≡◌, ◌≢◌, ◌+◌, ◌*◌, ◌<◌, ◌≤◌, ℕ, zero, suc, Bool, ℤ, pos, negsuc, if◌then◌else◌, List, [], ◌∷◌, length, Contains, MatchBool}
 use Rattle.std.specs.Ordering.{int_eq}
 use Rattle.level_range.specs.declared.range.Conduct.{Conduct}
 use Rattle.net_settle.specs.declared.shape.Link.{Link}

@@ -1,9 +1,9 @@
-use Rattle.std.proofs.Common.{ℕ, slice_set, ◌≡◌, ◌<◌, length, get_or, arith, ap, sym, ◌∙◌, subst, inl, inr, get_or-set_same, get_or-set_other}
+use Rattle.std.proofs.Common.{ℕ, slice_set, ◌≡◌, length, get_or, arith, ap, sym, ◌∙◌, subst, inl, inr, get_or-set_same, get_or-set_other}
 use Rattle.std.proofs.lemmas.List.FromFn.{fill_by_all}
 use Rattle.std.proofs.lemmas.List.{get_or_default}
 use Rattle.std.proofs.lemmas.Bool.{cases_eq}
 use Rattle.level_range.specs.declared.range.Kind.TheVariants.{Plain}
-use Rattle.level_range.specs.Signal.{Signal, undriven}
+use Rattle.level_range.specs.Signal.{undriven}
 use Rattle.level_range.specs.Combine.{joined}
 use Rattle.net_settle.specs.Charges.{charged_signals, contribution, signal_at}
 use Rattle.net_settle.proofs.island.charge_signals.Goals as goal

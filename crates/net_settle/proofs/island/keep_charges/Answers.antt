@@ -1,8 +1,8 @@
-use Rattle.std.proofs.Common.{◌≡◌, ◌≢◌, ◌<◌, ◌≤◌, ◌+◌, ℕ, length, get_or, slice_set, arith, ap, sym, ◌∙◌, subst, inl, inr, get_or-set_same, get_or-set_other}
+use Rattle.std.proofs.Common.{◌≡◌, ℕ, length, get_or, slice_set, arith, ap, sym, ◌∙◌, subst, inl, inr, get_or-set_same, get_or-set_other}
 use Rattle.std.proofs.lemmas.List.FromFn.{fill_by_all}
 use Rattle.std.proofs.lemmas.List.{get_or_default, get_or_past}
 use Rattle.std.proofs.lemmas.Bool.{cases_eq, cases_lt}
-use Rattle.level_range.specs.Signal.{Signal, undriven}
+use Rattle.level_range.specs.Signal.{undriven}
 use Rattle.net_settle.specs.Charges.{charges_left, charge_left, signal_at}
 use Rattle.net_settle.specs.Conditions.{IsCharge}
 use Rattle.net_settle.proofs.island.keep_charges.Goals as goal

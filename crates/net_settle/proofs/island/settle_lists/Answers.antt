@@ -1,7 +1,7 @@
-use Rattle.std.proofs.Common.{◌≡◌, length, arith, ap, sym, ◌∙◌, subst}
+use Rattle.std.proofs.Common.{length, arith, ap, sym, ◌∙◌, subst}
 use Rattle.std.specs.Prelude.{zip, List}
 use Rattle.level_range.specs.Signal.{Signal}
-use Rattle.net_settle.specs.ByLevels.{settled, signals_between}
+use Rattle.net_settle.specs.ByLevels.{settled}
 use Rattle.net_settle.specs.Charges.{driven_signals, island_signals, charged_signals, chosen_signals, switches_of}
 use Rattle.net_settle.specs.Settling.{AreSettled}
 use Rattle.net_settle.proofs.Laws.{settled-are_settled}

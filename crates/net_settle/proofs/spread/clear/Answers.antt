@@ -1,8 +1,8 @@
-use Rattle.std.proofs.Common.{◌≡◌, ◌<◌, ◌≤◌, length, get_or, sym, ap, subst, ◌∙◌, arith, inl, inr}
+use Rattle.std.proofs.Common.{◌<◌, length, get_or, sym, ap, subst, ◌∙◌, arith, inl, inr}
 use Rattle.std.specs.Prelude.{pos, slice_set}
 use Rattle.std.proofs.lemmas.Bool.{cases_eq, cases_lt}
 use Rattle.std.proofs.lemmas.List.{get_or_default, get_or_past}
-use Rattle.level_range.specs.Signal.{Signal, IsSignal, undriven}
+use Rattle.level_range.specs.Signal.{IsSignal, undriven}
 use Rattle.net_settle.specs.Bounds.{at}
 use Rattle.net_settle.proofs.Walks.{at-other, at-same}
 use Rattle.net_settle.proofs.spread.clear.Goals as goal

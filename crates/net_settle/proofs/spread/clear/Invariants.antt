@@ -1,4 +1,4 @@
-use Rattle.std.proofs.Common.{◌≡◌, ◌<◌, ℕ, ℤ, pos, get_or}
+use Rattle.std.proofs.Common.{◌≡◌, ◌<◌, ℕ, pos, get_or}
 use Rattle.level_range.specs.Signal.{Signal, IsSignal}
 use Rattle.net_settle.specs.Bounds.{at}
 use Rattle.net_settle.proofs.spread.clear.Given as goal

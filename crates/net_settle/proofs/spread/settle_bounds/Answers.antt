@@ -1,8 +1,8 @@
-use Rattle.std.proofs.Common.{◌≡◌, ◌+◌, ◌*◌, ◌-◌, ◌<◌, ℕ, suc, length, List, sym, ap, subst, ◌∙◌, arith}
-use Rattle.std.specs.Prelude.{ℤ, pos, zip}
+use Rattle.std.proofs.Common.{◌≡◌, ◌+◌, ◌*◌, ◌-◌, ℕ, suc, List, ap, subst, ◌∙◌, arith}
+use Rattle.std.specs.Prelude.{ℤ, zip}
 use Rattle.std.proofs.lemmas.List.{length-map}
 use Rattle.net_settle.specs.declared.side.Side.{Side}
-use Rattle.net_settle.specs.Bounds.{Switch, at, bound_of, bounds_of, favoured, opposed}
+use Rattle.net_settle.specs.Bounds.{Switch, bound_of, bounds_of, favoured, opposed}
 use Rattle.net_settle.specs.Settling.{IsSettled}
 use Rattle.net_settle.specs.Progress.{rank, IsDone}
 use Rattle.net_settle.proofs.Ranks.{rank-favoured, rank-opposed}

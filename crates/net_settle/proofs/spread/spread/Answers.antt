@@ -1,4 +1,4 @@
-use Rattle.std.proofs.Common.{◌≡◌, ◌≢◌, ◌<◌, ℕ, suc, length, List, sym, ap, subst, ◌∙◌, arith}
+use Rattle.std.proofs.Common.{◌≡◌, ◌≢◌, length, List, sym, ap, subst, arith}
 use Rattle.std.specs.Prelude.{ℤ, pos, zip}
 use Rattle.net_settle.specs.Bounds.{at, bounds_of, carried}
 use Rattle.net_settle.proofs.Taking.{spreads-then}

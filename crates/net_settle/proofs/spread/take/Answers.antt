@@ -1,6 +1,5 @@
-use Rattle.std.proofs.Common.{◌≡◌, ℤ, pos, sym, ap, not, ◌∙◌}
+use Rattle.std.proofs.Common.{sym, ap, not, ◌∙◌}
 use Rattle.std.specs.Ordering.{int_eq}
-use Rattle.net_settle.specs.Bounds.{at}
 use Rattle.net_settle.proofs.Rounds.{taken-stays, taken-takes}
 use Rattle.net_settle.proofs.Taking.{differ, agree, at-read}
 use Rattle.net_settle.proofs.spread.take.Goals as goal

@@ -1,10 +1,9 @@
-use Rattle.std.proofs.Common.{◌≡◌, Bool, true, false, pos, ap, sym, subst, ◌∙◌, arith}
-use Rattle.std.specs.Prelude.{◌<◌, length, MatchBool, ◌≢◌}
+use Rattle.std.proofs.Common.{◌≡◌, pos, ap, sym, subst, ◌∙◌, arith}
+use Rattle.std.specs.Prelude.{MatchBool, ◌≢◌}
 use Rattle.std.proofs.lemmas.List.{get_or_default}
 use Rattle.net_settle.specs.Bounds.{at, carried}
 use Rattle.net_settle.specs.ByLevels.{taken}
-use Rattle.net_settle.specs.Progress.{Moves, LinkRests}
-use Rattle.net_settle.proofs.Taking.{link-spreads, link-moves_there, link-moves_back, length-taken}
+use Rattle.net_settle.proofs.Taking.{link-spreads, link-moves_there, link-moves_back}
 use Rattle.net_settle.proofs.spread.take_carried.Goals as goal
 use Rattle.net_settle.proofs.spread.take_carried.Goals.{Then-there, Else-there}
 

@@ -1,4 +1,4 @@
-use Rattle.std.proofs.Common.{◌≡◌, ◌+◌, Bool, true, false, get_or, refl, sym, ap, ◌∙◌, subst, cond, arith}
+use Rattle.std.proofs.Common.{◌≡◌, false, get_or, sym, ap, ◌∙◌, subst, cond, arith}
 use Rattle.std.specs.Prelude.{length, ◌-◌}
 use Rattle.level_range.specs.declared.range.Conduct.TheVariants.{On}
 use Rattle.net_settle.specs.declared.shape.Link.{Link}
