@@ -1,0 +1,15 @@
+pub mod Ranks
+pub mod Walks
+pub mod Rounds
+pub mod InOrder
+pub mod Taking
+pub mod Walking
+pub mod Signals
+pub mod SameSignal
+pub mod ChargeBounds
+pub mod Listed
+pub mod Alone
+pub mod Again
+pub mod Laws
+pub mod Contributions
+pub mod SettlingAgain

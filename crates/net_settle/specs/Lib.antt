@@ -1,0 +1,6 @@
+pub mod Bounds
+pub mod Settling
+pub mod ByLevels
+pub mod Charges
+pub mod Conditions
+pub mod Progress
