@@ -4,13 +4,13 @@ mod sample;
 use crate::{Cell, Drive, Element, ElementKind, Find, Flat, Island, NetPart, Parts, Patch, sound};
 use byte_lists::{Bytes, NameList, NetList};
 use delay_rule::Delays;
-use flaws::{Change, FLAWS};
+use flaws::{Change, flaws};
 use level_range::Logic;
 use list_of::ListOf;
 use net_settle::{KindList, LevelList, Link, LinkList, Shape};
 use sample::{
-    ELEMENT_NAMES, ELEMENTS, ElementRow, FINDS, FindRow, ISLANDS, IslandRow, NET_NAMES, NETS,
-    NetRow,
+    ElementRow, FindRow, IslandRow, NetRow, element_names, element_rows, find_rows, island_rows,
+    net_names, net_rows,
 };
 use std::alloc::{AllocError, Global};
 use std::test::Fail;
@@ -95,7 +95,7 @@ fn find(alloc: Global, row: &FindRow) -> Result<Find, AllocError> {
 
 fn nets(alloc: Global, change: &Change) -> Result<ListOf<NetPart>, AllocError> {
     let mut nets = Vec::new(alloc);
-    for (k, row) in NETS.iter().enumerate() {
+    for (k, row) in net_rows().iter().enumerate() {
         let row = match change {
             Change::Net(at, other) if *at == k => other,
             _ => row,
@@ -107,7 +107,7 @@ fn nets(alloc: Global, change: &Change) -> Result<ListOf<NetPart>, AllocError> {
 
 fn elements(alloc: Global, change: &Change) -> Result<ListOf<Element>, AllocError> {
     let mut elements = Vec::new(alloc);
-    for (k, row) in ELEMENTS.iter().enumerate() {
+    for (k, row) in element_rows().iter().enumerate() {
         let row = match change {
             Change::Element(at, other) if *at == k => other,
             _ => row,
@@ -119,7 +119,7 @@ fn elements(alloc: Global, change: &Change) -> Result<ListOf<Element>, AllocErro
 
 fn islands(alloc: Global, change: &Change) -> Result<ListOf<Island>, AllocError> {
     let mut islands = Vec::new(alloc);
-    for (k, row) in ISLANDS.iter().enumerate() {
+    for (k, row) in island_rows().iter().enumerate() {
         let row = match change {
             Change::Island(at, other) if *at == k => other,
             _ => row,
@@ -131,7 +131,7 @@ fn islands(alloc: Global, change: &Change) -> Result<ListOf<Island>, AllocError>
 
 fn finds(alloc: Global, change: &Change) -> Result<ListOf<Find>, AllocError> {
     let mut finds = Vec::new(alloc);
-    for (k, row) in FINDS.iter().enumerate() {
+    for (k, row) in find_rows().iter().enumerate() {
         let row = match change {
             Change::Find(at, other) if *at == k => other,
             _ => row,
@@ -192,8 +192,8 @@ fn changed(alloc: Global, change: &Change) -> Result<Parts, Fail> {
         elements: elements(alloc, change)?,
         islands: islands(alloc, change)?,
         udps: udps(alloc)?,
-        net_names: names(alloc, &NET_NAMES, net_name)?,
-        element_names: names(alloc, &ELEMENT_NAMES, element_name)?,
+        net_names: names(alloc, net_names(), net_name)?,
+        element_names: names(alloc, element_names(), element_name)?,
         finds: finds(alloc, change)?,
         inputs: numbers(alloc, inputs)?,
         outputs: numbers(alloc, outputs)?,
@@ -203,7 +203,7 @@ fn changed(alloc: Global, change: &Change) -> Result<Parts, Fail> {
 #[test]
 fn each_flaw_is_unsound(rt: HostRuntime) -> Result<(), Fail> {
     assert!(rt; sound(rt.alloc(), &changed(rt.alloc(), &Change::Nothing)?)?);
-    for flaw in &FLAWS {
+    for flaw in flaws() {
         let parts = changed(rt.alloc(), &flaw.change)?;
         assert!(rt; !sound(rt.alloc(), &parts)?, "{}", flaw.name);
     }

@@ -22,7 +22,7 @@ pub struct Flaw {
     pub change: Change,
 }
 
-pub const FLAWS: [Flaw; 37] = [
+static FLAWS: [Flaw; 37] = [
     Flaw {
         name: "a strength of 8",
         change: Change::Element(
@@ -460,3 +460,7 @@ pub const FLAWS: [Flaw; 37] = [
         ),
     },
 ];
+
+pub fn flaws() -> &'static [Flaw] {
+    &FLAWS
+}

@@ -34,7 +34,7 @@ pub struct FindRow {
     pub nets: &'static [u32],
 }
 
-pub const NETS: [NetRow; 8] = [
+static NETS: [NetRow; 8] = [
     NetRow {
         kind: NetKind::Wire,
         charge: 0,
@@ -85,7 +85,7 @@ pub const NETS: [NetRow; 8] = [
     },
 ];
 
-pub const ELEMENTS: [ElementRow; 6] = [
+static ELEMENTS: [ElementRow; 6] = [
     ElementRow {
         kind: ElementKind::Tran,
         s1: 6,
@@ -130,7 +130,7 @@ pub const ELEMENTS: [ElementRow; 6] = [
     },
 ];
 
-pub const ISLANDS: [IslandRow; 6] = [
+static ISLANDS: [IslandRow; 6] = [
     IslandRow {
         nets: &[0, 1, 2],
         drives: &[],
@@ -181,11 +181,11 @@ pub const ISLANDS: [IslandRow; 6] = [
     },
 ];
 
-pub const NET_NAMES: [&str; 8] = ["a", "b", "c", "g", "w", "y", "v[1]", "v[0]"];
+static NET_NAMES: [&str; 8] = ["a", "b", "c", "g", "w", "y", "v[1]", "v[0]"];
 
-pub const ELEMENT_NAMES: [&str; 6] = ["t0", "t1", "u0", "b0", "a0", "k0"];
+static ELEMENT_NAMES: [&str; 6] = ["t0", "t1", "u0", "b0", "a0", "k0"];
 
-pub const FINDS: [FindRow; 7] = [
+static FINDS: [FindRow; 7] = [
     FindRow {
         name: "a",
         nets: &[0],
@@ -215,3 +215,27 @@ pub const FINDS: [FindRow; 7] = [
         nets: &[6, 7],
     },
 ];
+
+pub fn net_rows() -> &'static [NetRow] {
+    &NETS
+}
+
+pub fn element_rows() -> &'static [ElementRow] {
+    &ELEMENTS
+}
+
+pub fn island_rows() -> &'static [IslandRow] {
+    &ISLANDS
+}
+
+pub fn find_rows() -> &'static [FindRow] {
+    &FINDS
+}
+
+pub fn net_names() -> &'static [&'static str] {
+    &NET_NAMES
+}
+
+pub fn element_names() -> &'static [&'static str] {
+    &ELEMENT_NAMES
+}
