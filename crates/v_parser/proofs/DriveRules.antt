@@ -1,8 +1,8 @@
 -- Rules of drives, charges and delays.
 use Rattle.std.proofs.Common.{◌≡◌, ℕ, ◌<◌, true, not, List, [], ◌∷◌, ◌++◌, length, Option, Some, None, is_some, ◌⊎◌, inl, inr, refl, sym, ap, subst, arith}
-use Rattle.v_tree.specs.declared.places.Place.{Place}
+use Rattle.v_tree.specs.declared.locations.Location.{Location}
 use Rattle.v_tree.specs.declared.drives.Level.{Level}
-use Rattle.v_tree.specs.declared.drives.Drive.{Drive}
+use Rattle.v_tree.specs.declared.drives.DriveStrength.{DriveStrength}
 use Rattle.v_tree.specs.declared.drives.PullLevels.{PullLevels}
 use Rattle.v_tree.specs.declared.drives.Charge.{Charge}
 use Rattle.v_tree.specs.declared.drives.DelayValue.{DelayValue}
@@ -32,8 +32,8 @@ pub level_rule : Rule read.level (λ l. spell.level l ∷ []) fit.IsFree anythin
 unfolding read.level
 level_rule = bare_level_rule
 
-abbrev drive_parts : Drive → Place × (Level × (Unit {0} × (Level × Unit {0})))
-drive_parts d = (d.place, (d.first, (tt, (d.second, tt))))
+abbrev drive_parts : DriveStrength → Location × (Level × (Unit {0} × (Level × Unit {0})))
+drive_parts d = (d.location, (d.first, (tt, (d.second, tt))))
 
 -- `( level , level )`
 pub drive_rule : Rule read.drive spell.drive fit.IsFree anything
@@ -54,8 +54,8 @@ second_level_rule =
     refit_rule (map_rule (pair_rule (skip_rule 44) level_rule (λ y ws f g. refl)) (λ (z : Unit {0} × Level). z.1) second_parts (λ b. refl) (λ a. refl))
     (λ x f. tt) (λ x f. (tt, tt))
 
-abbrev pull_parts : PullLevels → Place × (Level × (Option Level × Unit {0}))
-pull_parts p = (p.place, (p.first, (p.second, tt)))
+abbrev pull_parts : PullLevels → Location × (Level × (Option Level × Unit {0}))
+pull_parts p = (p.location, (p.first, (p.second, tt)))
 
 -- `( level )` or `( level , level )`
 pub pull_levels_rule : Rule read.pull_levels spell.pull_levels fit.IsFree anything
@@ -67,7 +67,7 @@ pull_levels_rule =
     (λ x f. tt) (λ x f. (tt, (tt, (free_if_there x.second, tt))))
 
 -- a drive begins with `(` and a level
-pub drive_begins : (d : Drive) (ws : List Written) → begins read.sees_drive (spell.drive d ++ ws) ≡ true
+pub drive_begins : (d : DriveStrength) (ws : List Written) → begins read.sees_drive (spell.drive d ++ ws) ≡ true
 drive_begins d ws = ap is_some (level_back d.first)
 
 -- levels of a pull begin with `(` and a level
@@ -181,8 +181,8 @@ delay_rule =
     (λ x ws f g. ap (λ (d : Delay). begins sees_number (spell.delay d ++ ws)) f.1))
     delay_fits delay_from
 
-abbrev spec_parts : DelaySpec → Place × Delay
-spec_parts d = (d.place, d.delay)
+abbrev spec_parts : DelaySpec → Location × Delay
+spec_parts d = (d.location, d.delay)
 
 -- `# number` or `# ( value , .. )`
 pub delay_spec_rule : Rule read.delay_spec spell.delay_spec fit.IsFitDelaySpec anything

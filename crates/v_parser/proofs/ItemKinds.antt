@@ -1,6 +1,6 @@
 -- Which kind of item a first token begins.
 use Rattle.std.proofs.Common.{◌≡◌, ℕ, zero, suc, ◌<◌, Bool, true, false, if◌then◌else◌, List, [], ◌∷◌, ◌++◌, length, is_some, codes, refl, arith}
-use Rattle.v_tree.specs.declared.places.Place.{Place}
+use Rattle.v_tree.specs.declared.locations.Location.{Location}
 use Rattle.v_tree.specs.declared.declarations.Direction.{Direction}
 use Rattle.v_tree.specs.declared.declarations.Direction.TheVariants as direction
 use Rattle.v_tree.specs.declared.declarations.NetType.{NetType}
@@ -163,11 +163,11 @@ pull_index pull.Pullup = refl
 pull_index pull.Pulldown = refl
 
 -- gates begin with a word of their kind
-gate_index : (place : Place) (kind : GateKind) (rest ws : List Written) → index item_tests (first_form ((spell.gate_head place kind ++ rest) ++ ws)) ≡ gate_number kind
-gate_index place (gates.Logic kind strength time) rest ws = logic_index kind
-gate_index place (gates.Switch kind time) rest ws = switch_index kind
-gate_index place (gates.Tran kind) rest ws = tran_index kind
-gate_index place (gates.Pull kind levels) rest ws = pull_index kind
+gate_index : (location : Location) (kind : GateKind) (rest ws : List Written) → index item_tests (first_form ((spell.gate_head location kind ++ rest) ++ ws)) ≡ gate_number kind
+gate_index location (gates.Logic kind strength time) rest ws = logic_index kind
+gate_index location (gates.Switch kind time) rest ws = switch_index kind
+gate_index location (gates.Tran kind) rest ws = tran_index kind
+gate_index location (gates.Pull kind levels) rest ws = pull_index kind
 
 -- an item begins with a token of its kind
 pub item_index : (x : Item) (ws : List Written) → index item_tests (first_form (spell.module_item x ++ ws)) ≡ item_number x
@@ -176,5 +176,5 @@ item_index (item.Ports d) ws = direction_index d.direction
 item_index (item.Nets d) ws = net_type_index d.net_type
 item_index (item.Trireg d) ws = refl
 item_index (item.Assign a) ws = refl
-item_index (item.Gates g) ws = gate_index g.place g.kind (between_commas spell.terms g.gates ++ spell.mark 59 ∷ []) ws
+item_index (item.Gates g) ws = gate_index g.location g.kind (between_commas spell.terms g.gates ++ spell.mark 59 ∷ []) ws
 item_index (item.Instances i) ws = refl

@@ -1,8 +1,8 @@
 -- Rules of modules.
 use Rattle.std.proofs.Common.{◌≡◌, ℕ, suc, ◌<◌, ◌≤◌, true, false, not, List, [], ◌∷◌, ◌++◌, length, Option, codes, ◌⊎◌, inl, inr, refl, sym, ap, subst, ◌∙◌, arith}
 use Rattle.std.proofs.lemmas.Bool.{not-true, cases_lt}
-use Rattle.v_tree.specs.declared.places.Place.{Place}
-use Rattle.v_tree.specs.declared.places.Name.{Name}
+use Rattle.v_tree.specs.declared.locations.Location.{Location}
+use Rattle.v_tree.specs.declared.locations.Name.{Name}
 use Rattle.v_tree.specs.declared.expressions.Range.{Range}
 use Rattle.v_tree.specs.declared.declarations.Direction.{Direction}
 use Rattle.v_tree.specs.declared.declarations.NetType.{NetType}
@@ -224,8 +224,8 @@ module_item_rule =
 
 -- ---- ports
 
-abbrev ansi_parts : AnsiPort → (Direction × Place) × (Option NetType × (Option Range × Name))
-ansi_parts p = ((p.direction, p.place), (p.net_type, (p.range, p.name)))
+abbrev ansi_parts : AnsiPort → (Direction × Location) × (Option NetType × (Option Range × Name))
+ansi_parts p = ((p.direction, p.location), (p.net_type, (p.range, p.name)))
 
 -- `dir [ nettype ] [ range ] Name`
 ansi_port_rule : Rule read.ansi_port spell.ansi_port fit.IsFitAnsiPort anything
@@ -439,19 +439,19 @@ item_begins : (x : Item) (ws : List Written) → ends_module (first_form (spell.
 item_begins x ws = index_fails item_tests 0 (first_form (spell.module_item x ++ ws)) (omega (arith, item_index x ws, item_number_some x))
 
 -- gates are written with something
-gates_some : (place : Place) (kind : GateKind) (rest : List Written) → 0 < length (spell.gate_head place kind ++ rest)
-gates_some place (gates.Logic kind strength time) rest = omega arith
-gates_some place (gates.Switch kind time) rest = omega arith
-gates_some place (gates.Tran kind) rest = omega arith
-gates_some place (gates.Pull kind levels) rest = omega arith
+gates_some : (location : Location) (kind : GateKind) (rest : List Written) → 0 < length (spell.gate_head location kind ++ rest)
+gates_some location (gates.Logic kind strength time) rest = omega arith
+gates_some location (gates.Switch kind time) rest = omega arith
+gates_some location (gates.Tran kind) rest = omega arith
+gates_some location (gates.Pull kind levels) rest = omega arith
 
 -- an item is written with something
 item_some : (x : Item) → 0 < length (spell.module_item x)
-item_some (item.Gates g) = gates_some g.place g.kind (between_commas spell.terms g.gates ++ spell.mark 59 ∷ [])
+item_some (item.Gates g) = gates_some g.location g.kind (between_commas spell.terms g.gates ++ spell.mark 59 ∷ [])
 item_some x = omega arith
 
-abbrev module_parts : Module → (ModuleWord × Place) × (Name × (Ports × (Unit {0} × (List Item × Unit {0}))))
-module_parts m = ((m.word, m.place), (m.name, (m.ports, (tt, (m.items, tt)))))
+abbrev module_parts : Module → (ModuleWord × Location) × (Name × (Ports × (Unit {0} × (List Item × Unit {0}))))
+module_parts m = ((m.word, m.location), (m.name, (m.ports, (tt, (m.items, tt)))))
 
 -- `module Name [ ports ] ; { item } endmodule`
 pub module_rule : Rule read.module_at spell.module_spelling fit.IsFitModule anything

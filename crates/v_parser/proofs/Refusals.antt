@@ -9,7 +9,7 @@ use Rattle.v_tree.specs.Written.{Form, form_of, form_by, slice_of}
 use Rattle.v_tree.specs.Written as form
 use Rattle.v_parser.specs.declared.fault.ParseFault.{ParseFault}
 use Rattle.v_parser.specs.declared.fault.ParseFault.TheVariants.{Unsupported, Syntax, Memory}
-use Rattle.v_parser.specs.Input.{Input, Outcome, Reader, front, front_in, place, next, next_in, is_left_out, refusal, and_then, ◌>>=◌, pure, ◌<$>◌, ◌&◌, refuse, token_by, token, where_true, is_mark, is_word, is_finish, name_in, number_in, based_in, optional, choice, commas_from, commas, separated, many_from, many_after, many, some, here}
+use Rattle.v_parser.specs.Input.{Input, Outcome, Reader, front, front_in, location, next, next_in, is_left_out, refusal, and_then, ◌>>=◌, pure, ◌<$>◌, ◌&◌, refuse, token_by, token, where_true, is_mark, is_word, is_finish, name_in, number_in, based_in, optional, choice, commas_from, commas, separated, many_from, many_after, many, some, here}
 use Rattle.v_parser.specs.Input as input
 use Rattle.v_parser.specs.Words as words
 use Rattle.v_parser.specs.Expressions as read
@@ -201,7 +201,7 @@ some_safe : {A : Type 0} {p : Reader A} (stops : Form → Bool) → Safe p → S
 unfolding some
 some_safe {A} {p} stops rule = bind_safe (λ x. many_after stops p (x ∷ [])) rule (λ x. many_after_safe stops rule (x ∷ []))
 
--- the place of the next token
+-- the location of the next token
 here_safe : Safe here
 here_safe = record { safe = λ text all i within. within }
 
@@ -212,7 +212,7 @@ name_safe : Safe input.name
 unfolding input.name
 name_safe = map_safe _ (token_safe name_in refl)
 
--- a number, with its place
+-- a number, with its location
 placed_number_safe : Safe input.placed_number
 unfolding input.placed_number
 placed_number_safe = token_safe number_in refl
@@ -227,7 +227,7 @@ placed_based_safe : Safe input.placed_based
 unfolding input.placed_based
 placed_based_safe = token_safe based_in refl
 
--- a mark, with its place
+-- a mark, with its location
 mark_safe : (byte : ℕ) → Safe (input.mark byte)
 unfolding input.mark
 mark_safe byte = map_safe _ (token_safe (λ f. where_true (is_mark byte f)) refl)
@@ -237,7 +237,7 @@ skip_safe : (byte : ℕ) → Safe (input.skip byte)
 unfolding input.skip
 skip_safe byte = map_safe _ (token_safe (λ f. where_true (is_mark byte f)) refl)
 
--- a word, with its place
+-- a word, with its location
 word_safe : (bytes : List ℕ) → Safe (input.word bytes)
 unfolding input.word
 word_safe bytes = map_safe _ (token_safe (λ f. where_true (is_word bytes f)) refl)
@@ -356,9 +356,9 @@ unfolding declare.net_type
 net_type_safe = map_safe _ (token_safe words.net_type_in refl)
 
 -- a word before a range
-spread_named_safe : Safe declare.spread_named
-unfolding declare.spread_named
-spread_named_safe = map_safe _ (token_safe words.spread_in refl)
+vector_word_named_safe : Safe declare.vector_word_named
+unfolding declare.vector_word_named
+vector_word_named_safe = map_safe _ (token_safe words.vector_word_in refl)
 
 -- `dir [ nettype ] [ range ] Name , .. ;`
 port_decl_safe : Safe declare.port_decl
@@ -367,9 +367,9 @@ port_decl_safe = map_safe _ (pair_safe (token_safe words.direction_in refl)
     (pair_safe (optional_safe _ net_type_safe) (pair_safe (optional_safe _ range_safe) (pair_safe (separated_safe name_safe) (skip_safe 59)))))
 
 -- a range, with a word before it or without one
-spread_safe : Safe declare.spread
-unfolding declare.spread
-spread_safe = map_safe _ (pair_safe (optional_safe _ spread_named_safe) range_safe)
+vector_range_safe : Safe declare.vector_range
+unfolding declare.vector_range
+vector_range_safe = map_safe _ (pair_safe (optional_safe _ vector_word_named_safe) range_safe)
 
 -- `Name = expr`
 valued_name_safe : Safe declare.valued_name
@@ -381,17 +381,17 @@ declared_safe : Safe declare.declared
 unfolding declare.declared
 declared_safe = choice_safe _ (map_safe _ (separated_safe valued_name_safe)) (map_safe _ (separated_safe name_safe))
 
--- `nettype [ drive ] [ spread ] [ delay ] declared ;`
+-- `nettype [ drive ] [ vector_range ] [ delay ] declared ;`
 net_decl_safe : Safe declare.net_decl
 unfolding declare.net_decl
 net_decl_safe = map_safe _ (pair_safe (token_safe words.net_type_in refl)
-    (pair_safe (optional_safe _ drive_safe) (pair_safe (optional_safe _ spread_safe) (pair_safe (optional_safe _ delay_spec_safe) (pair_safe declared_safe (skip_safe 59))))))
+    (pair_safe (optional_safe _ drive_safe) (pair_safe (optional_safe _ vector_range_safe) (pair_safe (optional_safe _ delay_spec_safe) (pair_safe declared_safe (skip_safe 59))))))
 
--- `trireg [ charge ] [ spread ] [ delay ] Name , .. ;`
+-- `trireg [ charge ] [ vector_range ] [ delay ] Name , .. ;`
 trireg_decl_safe : Safe declare.trireg_decl
 unfolding declare.trireg_decl
 trireg_decl_safe = map_safe _ (pair_safe (word_safe (codes "trireg"))
-    (pair_safe (optional_safe _ charge_safe) (pair_safe (optional_safe _ spread_safe) (pair_safe (optional_safe _ delay_spec_safe) (pair_safe (separated_safe name_safe) (skip_safe 59))))))
+    (pair_safe (optional_safe _ charge_safe) (pair_safe (optional_safe _ vector_range_safe) (pair_safe (optional_safe _ delay_spec_safe) (pair_safe (separated_safe name_safe) (skip_safe 59))))))
 
 -- `target = expr`
 assigned_pair_safe : Safe declare.pair
@@ -437,7 +437,7 @@ connection_safe : Safe gate.connection
 unfolding gate.connection
 connection_safe = map_safe _ (pair_safe (mark_safe 46) (pair_safe name_safe (pair_safe (skip_safe 40) (pair_safe (optional_safe _ expr_safe) (skip_safe 41)))))
 
--- connections by name, or by place
+-- connections by name, or by@location
 connections_safe : Safe gate.connections
 unfolding gate.connections
 connections_safe = choice_safe _ (map_safe _ (separated_safe connection_safe)) (map_safe _ (separated_safe (optional_safe _ expr_safe)))
@@ -578,7 +578,7 @@ row_safe : Safe udp.row
 unfolding udp.row
 row_safe = map_safe _ (pair_safe (some_safe _ field_safe) (pair_safe (skip_symbol_safe 58) (pair_safe outcome_safe (skip_symbol_safe 59))))
 
--- a row, with its place
+-- a row, with its location
 placed_row_safe : Safe udp.placed_row
 unfolding udp.placed_row
 placed_row_safe = map_safe _ (pair_safe here_safe row_safe)

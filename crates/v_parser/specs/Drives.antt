@@ -1,8 +1,8 @@
 -- Drives, charges and delays.
 use Rattle.std.specs.Prelude.{ℕ, Bool, ◌&&◌, Option, Some, None}
-use Rattle.v_tree.specs.declared.places.Place.{Place}
+use Rattle.v_tree.specs.declared.locations.Location.{Location}
 use Rattle.v_tree.specs.declared.drives.Level.{Level}
-use Rattle.v_tree.specs.declared.drives.Drive.{Drive}
+use Rattle.v_tree.specs.declared.drives.DriveStrength.{DriveStrength}
 use Rattle.v_tree.specs.declared.drives.PullLevels.{PullLevels}
 use Rattle.v_tree.specs.declared.drives.Charge.{Charge}
 use Rattle.v_tree.specs.declared.drives.DelayValue.{DelayValue}
@@ -15,15 +15,15 @@ use Rattle.v_parser.specs.Input.{Reader, ◌<$>◌, ◌&◌, token, mark, skip, 
 use Rattle.v_parser.specs.Expressions.{sees_mark, sees_number}
 use Rattle.v_parser.specs.Words.{level_in, sees_level, charge_in}
 
--- a level, without its place
+-- a level, without its location
 unfoldable pub level : Reader Level
 level = (λ z. z.0) <$> token level_in
 
-abbrev pub drive_of : Place × (Level × (Unit {0} × (Level × Unit {0}))) → Drive
-drive_of z = record { place = z.0; first = z.1.0; second = z.1.1.1.0 }
+abbrev pub drive_of : Location × (Level × (Unit {0} × (Level × Unit {0}))) → DriveStrength
+drive_of z = record { location = z.0; first = z.1.0; second = z.1.1.1.0 }
 
 -- `( level , level )`
-unfoldable pub drive : Reader Drive
+unfoldable pub drive : Reader DriveStrength
 drive = drive_of <$> (mark 40 & level & skip 44 & level & skip 41)
 
 -- `(` and a level
@@ -34,14 +34,14 @@ sees_drive f g = is_mark 40 f && sees_level g g
 unfoldable pub second_level : Reader Level
 second_level = (λ z. z.1) <$> (skip 44 & level)
 
-abbrev pub pull_of : Place × (Level × (Option Level × Unit {0})) → PullLevels
-pull_of z = record { place = z.0; first = z.1.0; second = z.1.1.0 }
+abbrev pub pull_of : Location × (Level × (Option Level × Unit {0})) → PullLevels
+pull_of z = record { location = z.0; first = z.1.0; second = z.1.1.0 }
 
 -- `( level )` or `( level , level )`
 unfoldable pub pull_levels : Reader PullLevels
 pull_levels = pull_of <$> (mark 40 & level & optional (sees_mark 44) second_level & skip 41)
 
--- a word for a charge, without its place
+-- a word for a charge, without its location
 unfoldable pub charge_named : Reader Charge
 charge_named = (λ z. z.0) <$> token charge_in
 
@@ -69,8 +69,8 @@ delay_values = (λ z. delays.Values z.1.0) <$> (skip 40 & separated delay_value 
 abbrev pub delay : Reader Delay
 delay = choice sees_number (delays.Number <$> number) delay_values
 
-abbrev pub delay_of : Place × Delay → DelaySpec
-delay_of z = record { place = z.0; delay = z.1 }
+abbrev pub delay_of : Location × Delay → DelaySpec
+delay_of z = record { location = z.0; delay = z.1 }
 
 -- `# number` or `# ( value , .. )`
 unfoldable pub delay_spec : Reader DelaySpec

@@ -1,7 +1,7 @@
 -- Modules and files.
 use Rattle.std.specs.Prelude.{ℕ, Bool, List, [], Option, codes}
-use Rattle.v_tree.specs.declared.places.Place.{Place}
-use Rattle.v_tree.specs.declared.places.Name.{Name}
+use Rattle.v_tree.specs.declared.locations.Location.{Location}
+use Rattle.v_tree.specs.declared.locations.Name.{Name}
 use Rattle.v_tree.specs.declared.expressions.Range.{Range}
 use Rattle.v_tree.specs.declared.declarations.Direction.{Direction}
 use Rattle.v_tree.specs.declared.declarations.NetType.{NetType}
@@ -51,8 +51,8 @@ nets = choice sees_net_type (item.Nets <$> net_decl) charged
 unfoldable pub module_item : Reader Item
 module_item = choice sees_direction (item.Ports <$> port_decl) nets
 
-abbrev pub ansi_port_of : (Direction × Place) × (Option NetType × (Option Range × Name)) → AnsiPort
-ansi_port_of z = record { place = z.0.1; direction = z.0.0; net_type = z.1.0; range = z.1.1.0; name = z.1.1.1 }
+abbrev pub ansi_port_of : (Direction × Location) × (Option NetType × (Option Range × Name)) → AnsiPort
+ansi_port_of z = record { location = z.0.1; direction = z.0.0; net_type = z.1.0; range = z.1.1.0; name = z.1.1.1 }
 
 -- `dir [ nettype ] [ range ] Name`
 unfoldable pub ansi_port : Reader AnsiPort
@@ -92,8 +92,8 @@ header_ports = choice (sees_mark 40) ports_within (pure ports.Absent)
 abbrev pub ends_module : Form → Bool
 ends_module f = is_word (codes "endmodule") f
 
-abbrev pub module_of : (ModuleWord × Place) × (Name × (Ports × (Unit {0} × (List Item × Unit {0})))) → Module
-module_of z = record { place = z.0.1; word = z.0.0; name = z.1.0; ports = z.1.1.0; items = z.1.1.1.1.0 }
+abbrev pub module_of : (ModuleWord × Location) × (Name × (Ports × (Unit {0} × (List Item × Unit {0})))) → Module
+module_of z = record { location = z.0.1; word = z.0.0; name = z.1.0; ports = z.1.1.0; items = z.1.1.1.1.0 }
 
 -- `module Name [ ports ] ; { item } endmodule`
 unfoldable pub module_at : Reader Module

@@ -16,7 +16,7 @@ use std::marker::Model;
 use v_lexer::{
     Literal, Token, TokenKind, is_left_out_word, is_literal, literal_value, name_text, number_value,
 };
-use v_tree::{Name, Place};
+use v_tree::{Name, Location};
 
 /// The tokens that are left, and the text that they stand in.
 #[derive(Drop)]
@@ -39,7 +39,7 @@ impl<'a> Model for Cursor<'a> {
     ghost invariant = { HasNumbers };
 }
 
-/// The bytes from one place to another, as far as they lie in the text.
+/// The bytes from one location to another, as far as they lie in the text.
 fn piece(text: &[u8], start: usize, end: usize) -> &[u8]
     ensures { result.now ≡ take (end - start) (drop start text.now) }
 {
@@ -96,7 +96,7 @@ fn copy_of(alloc: Global, bytes: &[u8]) -> Result<Bytes, AllocError>
     Ok(Bytes::from_vec(bytes.to_vec(alloc)?))
 }
 
-#[tactic(auto, unfolding(crate::specs::Input::front, crate::specs::Input::place, crate::specs::Input::next, crate::specs::Input::kind_of, crate::specs::Input::bytes, crate::specs::Input::refusal, crate::specs::Input::mark, crate::specs::Input::skip, crate::specs::Input::word, crate::specs::Input::skip_word, crate::specs::Input::skip_symbol, crate::specs::Input::finish, crate::specs::Input::name, crate::specs::Input::number, crate::specs::Input::placed_number, crate::specs::Input::placed_based, v_tree::specs::Written::form_of))]
+#[tactic(auto, unfolding(crate::specs::Input::front, crate::specs::Input::location, crate::specs::Input::next, crate::specs::Input::kind_of, crate::specs::Input::bytes, crate::specs::Input::refusal, crate::specs::Input::mark, crate::specs::Input::skip, crate::specs::Input::word, crate::specs::Input::skip_word, crate::specs::Input::skip_symbol, crate::specs::Input::finish, crate::specs::Input::name, crate::specs::Input::number, crate::specs::Input::placed_number, crate::specs::Input::placed_based, v_tree::specs::Written::form_of))]
 impl<'a> Cursor<'a> {
     /// All tokens of a text.
     pub fn new(alloc: Global, text: &'a [u8], tokens: &'a [Token]) -> Cursor<'a>
@@ -132,14 +132,14 @@ impl<'a> Cursor<'a> {
     }
 
     /// Where the next token stands.
-    pub fn place(&self) -> Place
-        ensures { result ≡ spec.place self.now }
+    pub fn location(&self) -> Location
+        ensures { result ≡ spec.location self.now }
     {
         let line = match self.tokens {
             [token, ..] => token.line,
             [] => 0,
         };
-        Place {
+        Location {
             line,
             token: self.number,
         }
@@ -228,14 +228,14 @@ impl<'a> Cursor<'a> {
         }
     }
 
-    /// A mark, with its place.
-    pub fn mark(&mut self, byte: u8) -> Result<Place, ParseFault>
+    /// A mark, with its location.
+    pub fn mark(&mut self, byte: u8) -> Result<Location, ParseFault>
         ensures { Reads (spec.mark byte self.old) result self.new }
     {
         if self.sees_mark(byte) {
-            let place = self.place();
+            let location = self.location();
             self.advance();
-            Ok(place)
+            Ok(location)
         } else {
             Err(self.refuse())
         }
@@ -265,14 +265,14 @@ impl<'a> Cursor<'a> {
         }
     }
 
-    /// A word, with its place.
-    pub fn word(&mut self, word: &[u8]) -> Result<Place, ParseFault>
+    /// A word, with its location.
+    pub fn word(&mut self, word: &[u8]) -> Result<Location, ParseFault>
         ensures { Reads (spec.word word.now self.old) result self.new }
     {
         if self.sees_word(word) {
-            let place = self.place();
+            let location = self.location();
             self.advance();
-            Ok(place)
+            Ok(location)
         } else {
             Err(self.refuse())
         }
@@ -317,10 +317,10 @@ impl<'a> Cursor<'a> {
         ensures { Reads (spec.name self.old) result self.new }
     {
         if self.kind() == TokenKind::Name {
-            let place = self.place();
+            let location = self.location();
             let text = copy_of(self.alloc, name_text(self.bytes()))?;
             self.advance();
-            Ok(Name { place, text })
+            Ok(Name { location, text })
         } else {
             Err(self.refuse())
         }
@@ -337,15 +337,15 @@ impl<'a> Cursor<'a> {
         }
     }
 
-    /// A number, with its place.
-    pub fn placed_number(&mut self) -> Result<(u32, Place), ParseFault>
+    /// A number, with its location.
+    pub fn placed_number(&mut self) -> Result<(u32, Location), ParseFault>
         ensures { Reads (spec.placed_number self.old) result self.new }
     {
         match self.value() {
             Some(value) => {
-                let place = self.place();
+                let location = self.location();
                 self.advance();
-                Ok((value, place))
+                Ok((value, location))
             }
             None => Err(self.refuse()),
         }
@@ -423,15 +423,15 @@ impl<'a> Cursor<'a> {
         }
     }
 
-    /// A based number, with its place.
-    pub fn placed_based(&mut self) -> Result<(Literal, Place), ParseFault>
+    /// A based number, with its location.
+    pub fn placed_based(&mut self) -> Result<(Literal, Location), ParseFault>
         ensures { Reads (spec.placed_based self.old) result self.new }
     {
         match self.literal()? {
             Some(literal) => {
-                let place = self.place();
+                let location = self.location();
                 self.advance();
-                Ok((literal, place))
+                Ok((literal, location))
             }
             None => Err(self.refuse()),
         }

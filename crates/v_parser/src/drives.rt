@@ -10,9 +10,9 @@ use crate::cursor::Cursor;
 use crate::fault::ParseFault;
 use crate::lists::{Part, separated};
 use crate::words::{sees, word_for};
-use v_tree::{Charge, Delay, DelaySpec, DelayValue, Drive, Level, PullLevels};
+use v_tree::{Charge, Delay, DelaySpec, DelayValue, DriveStrength, Level, PullLevels};
 
-/// A level, without its place.
+/// A level, without its location.
 #[tactic(auto, unfolding(crate::specs::Drives::level))]
 fn level(cursor: &mut Cursor<'_>) -> Result<Level, ParseFault>
     ensures { Reads (spec.level cursor.old) result cursor.new }
@@ -23,16 +23,16 @@ fn level(cursor: &mut Cursor<'_>) -> Result<Level, ParseFault>
 
 /// `( level , level )`
 #[tactic(auto, unfolding(crate::specs::Drives::drive))]
-fn drive(cursor: &mut Cursor<'_>) -> Result<Drive, ParseFault>
+fn drive(cursor: &mut Cursor<'_>) -> Result<DriveStrength, ParseFault>
     ensures { Reads (spec.drive cursor.old) result cursor.new }
 {
-    let place = cursor.mark(b'(')?;
+    let location = cursor.mark(b'(')?;
     let first = level(cursor)?;
     cursor.skip(b',')?;
     let second = level(cursor)?;
     cursor.skip(b')')?;
-    Ok(Drive {
-        place,
+    Ok(DriveStrength {
+        location,
         first,
         second,
     })
@@ -47,7 +47,7 @@ pub fn sees_drive(cursor: &Cursor<'_>) -> bool
 
 /// A drive, where a `(` comes next.
 #[tactic(auto, unfolding(crate::specs::Input::optional))]
-pub fn drive_in_parentheses(cursor: &mut Cursor<'_>) -> Result<Option<Drive>, ParseFault>
+pub fn drive_in_parentheses(cursor: &mut Cursor<'_>) -> Result<Option<DriveStrength>, ParseFault>
     ensures { Reads (input.optional (sees_mark 40) spec.drive cursor.old) result cursor.new }
 {
     if cursor.sees_mark(b'(') {
@@ -59,7 +59,7 @@ pub fn drive_in_parentheses(cursor: &mut Cursor<'_>) -> Result<Option<Drive>, Pa
 
 /// A drive, where a `(` and a level come next.
 #[tactic(auto, unfolding(crate::specs::Input::optional))]
-pub fn drive_if_there(cursor: &mut Cursor<'_>) -> Result<Option<Drive>, ParseFault>
+pub fn drive_if_there(cursor: &mut Cursor<'_>) -> Result<Option<DriveStrength>, ParseFault>
     ensures { Reads (input.optional spec.sees_drive spec.drive cursor.old) result cursor.new }
 {
     if sees_drive(cursor) {
@@ -95,12 +95,12 @@ fn second_level_if_there(cursor: &mut Cursor<'_>) -> Result<Option<Level>, Parse
 fn pull_levels(cursor: &mut Cursor<'_>) -> Result<PullLevels, ParseFault>
     ensures { Reads (spec.pull_levels cursor.old) result cursor.new }
 {
-    let place = cursor.mark(b'(')?;
+    let location = cursor.mark(b'(')?;
     let first = level(cursor)?;
     let second = second_level_if_there(cursor)?;
     cursor.skip(b')')?;
     Ok(PullLevels {
-        place,
+        location,
         first,
         second,
     })
@@ -118,7 +118,7 @@ pub fn pull_levels_if_there(cursor: &mut Cursor<'_>) -> Result<Option<PullLevels
     }
 }
 
-/// A word for a charge, without its place.
+/// A word for a charge, without its location.
 #[tactic(auto, unfolding(crate::specs::Drives::charge_named))]
 fn charge_named(cursor: &mut Cursor<'_>) -> Result<Charge, ParseFault>
     ensures { Reads (spec.charge_named cursor.old) result cursor.new }
@@ -224,9 +224,9 @@ fn delay(cursor: &mut Cursor<'_>) -> Result<Delay, ParseFault>
 fn delay_spec(cursor: &mut Cursor<'_>) -> Result<DelaySpec, ParseFault>
     ensures { Reads (spec.delay_spec cursor.old) result cursor.new }
 {
-    let place = cursor.mark(b'#')?;
+    let location = cursor.mark(b'#')?;
     let delay = delay(cursor)?;
-    Ok(DelaySpec { place, delay })
+    Ok(DelaySpec { location, delay })
 }
 
 /// A delay, where a `#` comes next.

@@ -88,11 +88,11 @@ fn atom(cursor: &mut Cursor<'_>) -> Result<Expr, ParseFault>
         return Ok(Expr::Pick(pick(cursor)?));
     }
     if cursor.sees_number() {
-        let (value, place) = cursor.placed_number()?;
-        return Ok(Expr::Number(place, value));
+        let (value, location) = cursor.placed_number()?;
+        return Ok(Expr::Number(location, value));
     }
-    let (literal, place) = cursor.placed_based()?;
-    Ok(Expr::Based(place, literal))
+    let (literal, location) = cursor.placed_based()?;
+    Ok(Expr::Based(location, literal))
 }
 
 /// Expressions with commas between, with concatenations so deep at most.
@@ -124,10 +124,10 @@ pub fn expr_at(cursor: &mut Cursor<'_>, depth: u32) -> Result<Expr, ParseFault>
     if !cursor.sees_mark(b'{') {
         return atom(cursor);
     }
-    let place = cursor.mark(b'{')?;
+    let location = cursor.mark(b'{')?;
     let parts = exprs_at(cursor, depth - 1)?;
     cursor.skip(b'}')?;
-    Ok(Expr::Concat(place, parts))
+    Ok(Expr::Concat(location, parts))
 }
 
 /// Targets with commas between, with concatenations so deep at most.
@@ -159,8 +159,8 @@ pub fn target_at(cursor: &mut Cursor<'_>, depth: u32) -> Result<Target, ParseFau
     if !cursor.sees_mark(b'{') {
         return Ok(Target::Pick(pick(cursor)?));
     }
-    let place = cursor.mark(b'{')?;
+    let location = cursor.mark(b'{')?;
     let parts = targets_at(cursor, depth - 1)?;
     cursor.skip(b'}')?;
-    Ok(Target::Concat(place, parts))
+    Ok(Target::Concat(location, parts))
 }

@@ -10,8 +10,8 @@ pub enum ParseFault {
     /// The token belongs to a part of the language that the grammar leaves out.
     #[error("token {0} is unsupported")]
     Unsupported(u32),
-    /// The grammar has no such token at its place.
-    #[error("token {0} is out of place")]
+    /// The grammar has no such token at its location.
+    #[error("token {0} is out of@location")]
     Syntax(u32),
     /// There is no memory for the tree.
     #[error("out of memory")]

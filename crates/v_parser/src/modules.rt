@@ -140,12 +140,12 @@ impl Repeated for Item {
 fn ansi_port(cursor: &mut Cursor<'_>) -> Result<AnsiPort, ParseFault>
     ensures { Reads (spec.ansi_port cursor.old) result cursor.new }
 {
-    let (direction, place) = word_for::<Direction>(cursor)?;
+    let (direction, location) = word_for::<Direction>(cursor)?;
     let net_type = net_type_if_there(cursor)?;
     let range = range_if_there(cursor)?;
     let name = cursor.name()?;
     Ok(AnsiPort {
-        place,
+        location,
         direction,
         net_type,
         range,
@@ -240,14 +240,14 @@ fn header_ports(cursor: &mut Cursor<'_>) -> Result<Ports, ParseFault>
 pub fn module_at(cursor: &mut Cursor<'_>) -> Result<Module, ParseFault>
     ensures { Reads (spec.module_at cursor.old) result cursor.new }
 {
-    let (word, place) = word_for::<ModuleWord>(cursor)?;
+    let (word, location) = word_for::<ModuleWord>(cursor)?;
     let name = cursor.name()?;
     let ports = header_ports(cursor)?;
     cursor.skip(b';')?;
     let items = many(cursor)?;
     cursor.skip_word(b"endmodule")?;
     Ok(Module {
-        place,
+        location,
         word,
         name,
         ports,

@@ -8,7 +8,7 @@ ghost use Rattle.v_parser.specs.Words as spec;
 use crate::cursor::{Cursor, is};
 use crate::fault::ParseFault;
 use v_tree::{
-    Charge, Direction, Level, LogicGate, ModuleWord, NetType, Place, PullGate, SpreadWord,
+    Charge, Direction, Level, LogicGate, ModuleWord, NetType, Location, PullGate, VectorWord,
     Strength, Switch, TranGate,
 };
 
@@ -41,15 +41,15 @@ pub fn sees<M: Meaning>(cursor: &Cursor<'_>) -> bool
     meant::<M>(cursor).is_some()
 }
 
-/// What the next token stands for, where it is one of the words, with its place.
-pub fn word_for<M: Meaning>(cursor: &mut Cursor<'_>) -> Result<(M, Place), ParseFault>
+/// What the next token stands for, where it is one of the words, with its location.
+pub fn word_for<M: Meaning>(cursor: &mut Cursor<'_>) -> Result<(M, Location), ParseFault>
     ensures { Reads (input.token (λ f. spec.chosen M.stands_for (input.word_in f)) cursor.old) result cursor.new }
 {
     match meant::<M>(cursor) {
         Some(found) => {
-            let place = cursor.place();
+            let location = cursor.location();
             cursor.advance();
-            Ok((found, place))
+            Ok((found, location))
         }
         None => Err(cursor.refuse()),
     }
@@ -107,17 +107,17 @@ impl Meaning for NetType {
     }
 }
 
-impl Meaning for SpreadWord {
-    ghost use Rattle.v_parser.specs.Words.{spread_of};
+impl Meaning for VectorWord {
+    ghost use Rattle.v_parser.specs.Words.{vector_word_of};
 
-    ghost stands_for = { spread_of };
+    ghost stands_for = { vector_word_of };
 
-    #[tactic(auto, unfolding(crate::specs::Words::spread_of, crate::specs::Words::spread_table))]
-    fn of(word: &[u8]) -> Option<SpreadWord> {
+    #[tactic(auto, unfolding(crate::specs::Words::vector_word_of, crate::specs::Words::vector_word_table))]
+    fn of(word: &[u8]) -> Option<VectorWord> {
         if is(word, b"vectored") {
-            Some(SpreadWord::Vectored)
+            Some(VectorWord::Vectored)
         } else if is(word, b"scalared") {
-            Some(SpreadWord::Scalared)
+            Some(VectorWord::Scalared)
         } else {
             None
         }

@@ -112,9 +112,9 @@ fn show_level(shown: &mut String, level: &Level) -> Result<(), AllocError> {
     Ok(())
 }
 
-fn show_drive(shown: &mut String, drive: &Option<Drive>) -> Result<(), AllocError> {
+fn show_drive(shown: &mut String, drive: &Option<DriveStrength>) -> Result<(), AllocError> {
     if let Some(drive) = drive {
-        let token = drive.place.token;
+        let token = drive.location.token;
         write!(shown, "{token}(")?;
         show_level(shown, &drive.first)?;
         shown.push(',')?;
@@ -126,7 +126,7 @@ fn show_drive(shown: &mut String, drive: &Option<Drive>) -> Result<(), AllocErro
 
 fn show_levels(shown: &mut String, levels: &Option<PullLevels>) -> Result<(), AllocError> {
     if let Some(levels) = levels {
-        let token = levels.place.token;
+        let token = levels.location.token;
         write!(shown, "{token}(")?;
         show_level(shown, &levels.first)?;
         if let Some(second) = &levels.second {
@@ -154,7 +154,7 @@ fn show_values(shown: &mut String, values: &DelayValueList) -> Result<(), AllocE
 
 fn show_delay(shown: &mut String, delay: &Option<DelaySpec>) -> Result<(), AllocError> {
     if let Some(spec) = delay {
-        let token = spec.place.token;
+        let token = spec.location.token;
         write!(shown, "{token}#")?;
         match &spec.delay {
             Delay::Number(n) => write!(shown, "{n} ")?,
@@ -178,12 +178,12 @@ fn show_range_if_there(shown: &mut String, range: &Option<Range>) -> Result<(), 
     Ok(())
 }
 
-fn show_spread(shown: &mut String, spread: &Option<Spread>) -> Result<(), AllocError> {
-    if let Some(spread) = spread {
-        if let Some(word) = &spread.word {
+fn show_vector_range(shown: &mut String, vector_range: &Option<VectorRange>) -> Result<(), AllocError> {
+    if let Some(vector_range) = vector_range {
+        if let Some(word) = &vector_range.word {
             write!(shown, "{word:?} ")?;
         }
-        show_range(shown, &spread.range)?;
+        show_range(shown, &vector_range.range)?;
     }
     Ok(())
 }
@@ -201,11 +201,11 @@ fn show_valued(shown: &mut String, names: &ValuedNameList) -> Result<(), AllocEr
 }
 
 fn show_net_decl(shown: &mut String, decl: &NetDecl) -> Result<(), AllocError> {
-    let token = decl.place.token;
+    let token = decl.location.token;
     let net_type = decl.net_type;
     write!(shown, "{token}:{net_type:?} ")?;
     show_drive(shown, &decl.drive)?;
-    show_spread(shown, &decl.spread)?;
+    show_vector_range(shown, &decl.vector_range)?;
     show_delay(shown, &decl.delay)?;
     match &decl.declared {
         Declared::Names(names) => show_names(shown, names),
@@ -214,18 +214,18 @@ fn show_net_decl(shown: &mut String, decl: &NetDecl) -> Result<(), AllocError> {
 }
 
 fn show_trireg(shown: &mut String, decl: &TriregDecl) -> Result<(), AllocError> {
-    let token = decl.place.token;
+    let token = decl.location.token;
     write!(shown, "{token}:Trireg ")?;
     if let Some(charge) = &decl.charge {
         write!(shown, "{charge:?} ")?;
     }
-    show_spread(shown, &decl.spread)?;
+    show_vector_range(shown, &decl.vector_range)?;
     show_delay(shown, &decl.delay)?;
     show_names(shown, &decl.names)
 }
 
 fn show_assign(shown: &mut String, item: &AssignItem) -> Result<(), AllocError> {
-    let token = item.place.token;
+    let token = item.location.token;
     write!(shown, "{token}:Assign ")?;
     show_drive(shown, &item.drive)?;
     show_delay(shown, &item.delay)?;
@@ -283,7 +283,7 @@ fn show_kind(shown: &mut String, kind: &GateKind) -> Result<(), AllocError> {
 }
 
 fn show_gates(shown: &mut String, item: &GateItem) -> Result<(), AllocError> {
-    let token = item.place.token;
+    let token = item.location.token;
     write!(shown, "{token}:")?;
     show_kind(shown, &item.kind)?;
     for (i, terms) in item.gates.as_slice().iter().enumerate() {
@@ -296,7 +296,7 @@ fn show_gates(shown: &mut String, item: &GateItem) -> Result<(), AllocError> {
 }
 
 fn show_connection(shown: &mut String, connection: &Connection) -> Result<(), AllocError> {
-    let token = connection.place.token;
+    let token = connection.location.token;
     write!(shown, "{token}.")?;
     show_bytes(shown, connection.port.text.as_slice())?;
     shown.push('=')?;
@@ -340,7 +340,7 @@ fn show_inst(shown: &mut String, inst: &Inst) -> Result<(), AllocError> {
 }
 
 fn show_instance(shown: &mut String, instance: &Instance) -> Result<(), AllocError> {
-    let token = instance.name.place.token;
+    let token = instance.name.location.token;
     write!(shown, "{token}:")?;
     show_bytes(shown, instance.name.text.as_slice())?;
     shown.push(' ')?;
@@ -356,7 +356,7 @@ fn show_instance(shown: &mut String, instance: &Instance) -> Result<(), AllocErr
 }
 
 fn show_port_decl(shown: &mut String, decl: &PortDecl) -> Result<(), AllocError> {
-    let token = decl.place.token;
+    let token = decl.location.token;
     let direction = decl.direction;
     write!(shown, "{token}:{direction:?} ")?;
     show_net_type(shown, &decl.net_type)?;
@@ -386,7 +386,7 @@ fn show_items(shown: &mut String, items: &ItemList) -> Result<(), AllocError> {
 }
 
 fn show_ansi_port(shown: &mut String, port: &AnsiPort) -> Result<(), AllocError> {
-    let token = port.place.token;
+    let token = port.location.token;
     let direction = port.direction;
     write!(shown, "{token}:{direction:?} ")?;
     show_net_type(shown, &port.net_type)?;
@@ -424,7 +424,7 @@ fn show_ports(shown: &mut String, ports: &Ports) -> Result<(), AllocError> {
 }
 
 fn show_module(shown: &mut String, module: &Module) -> Result<(), AllocError> {
-    let token = module.place.token;
+    let token = module.location.token;
     let word = module.word;
     write!(shown, "{token}:{word:?} ")?;
     show_bytes(shown, module.name.text.as_slice())?;
@@ -487,24 +487,24 @@ fn show_header(shown: &mut String, ports: &UdpPorts) -> Result<(), AllocError> {
 fn show_udp_item(shown: &mut String, item: &UdpItem) -> Result<(), AllocError> {
     match item {
         UdpItem::Output {
-            place,
+            location,
             is_reg,
             name,
             start,
         } => {
-            let token = place.token;
+            let token = location.token;
             write!(shown, "{token}:o ")?;
             show_star(shown, *is_reg)?;
             show_bytes(shown, name.text.as_slice())?;
             show_start(shown, start)?;
         }
-        UdpItem::Input(place, names) => {
-            let token = place.token;
+        UdpItem::Input(location, names) => {
+            let token = location.token;
             write!(shown, "{token}:i ")?;
             show_names(shown, names)?;
         }
-        UdpItem::Reg(place, name) => {
-            let token = place.token;
+        UdpItem::Reg(location, name) => {
+            let token = location.token;
             write!(shown, "{token}:r ")?;
             show_bytes(shown, name.text.as_slice())?;
         }
@@ -545,7 +545,7 @@ fn show_sym(shown: &mut String, sym: Sym) -> Result<(), AllocError> {
 }
 
 fn show_row(shown: &mut String, row: &PlacedRow) -> Result<(), AllocError> {
-    let token = row.place.token;
+    let token = row.location.token;
     write!(shown, "{token}[")?;
     for sym in row.row.ins.as_slice() {
         show_sym(shown, *sym)?;
@@ -560,7 +560,7 @@ fn show_row(shown: &mut String, row: &PlacedRow) -> Result<(), AllocError> {
 }
 
 fn show_udp(shown: &mut String, udp: &UdpDecl) -> Result<(), AllocError> {
-    let token = udp.place.token;
+    let token = udp.location.token;
     write!(shown, "{token}:")?;
     show_bytes(shown, udp.name.text.as_slice())?;
     shown.push_str(" (")?;
@@ -570,7 +570,7 @@ fn show_udp(shown: &mut String, udp: &UdpDecl) -> Result<(), AllocError> {
         show_udp_item(shown, item)?;
     }
     if let Some(initial) = &udp.initial {
-        let token = initial.place.token;
+        let token = initial.location.token;
         write!(shown, "{token}:")?;
         show_bytes(shown, initial.name.text.as_slice())?;
         shown.push('=')?;
