@@ -65,6 +65,8 @@ wordless_level : (f : Form) → is_wordless f ≡ true → sees_level f f ≡ fa
 wordless_level (form.Name text) e = refl
 wordless_level (form.Number n) e = refl
 wordless_level (form.Based literal) e = refl
+wordless_level (form.Decimal digits) e = refl
+wordless_level (form.Directive d) e = refl
 wordless_level (form.Mark b) e = refl
 wordless_level (form.Symbol b) e = refl
 wordless_level f e = absurd cc
@@ -193,31 +195,31 @@ free_there (Some x) = tt
 
 -- an item of a kind is made of its parts
 logic_by : (location : Location) (kind : GateKind) (list : List Terms) → fit.IsFitGateKind kind → fit.AreSome fit.IsFitTerms list → IsLogicKind kind → (z : LogicParts) × (gates_of location kind list ≡ logic_of z) × AreLogicFit z
-logic_by@location (gates.Logic kind strength time) list f s k = (((kind, location), (strength, (time, (list, tt)))), refl, (tt, (free_there strength, (f, (s, tt)))))
-logic_by@location (gates.Switch kind time) list f s k = absurd k
-logic_by@location (gates.Tran kind) list f s k = absurd k
-logic_by@location (gates.Pull kind levels) list f s k = absurd k
+logic_by location (gates.Logic kind strength time) list f s k = (((kind, location), (strength, (time, (list, tt)))), refl, (tt, (free_there strength, (f, (s, tt)))))
+logic_by location (gates.Switch kind time) list f s k = absurd k
+logic_by location (gates.Tran kind) list f s k = absurd k
+logic_by location (gates.Pull kind levels) list f s k = absurd k
 
 -- the same of switches
 switch_by : (location : Location) (kind : GateKind) (list : List Terms) → fit.IsFitGateKind kind → fit.AreSome fit.IsFitTerms list → IsSwitchKind kind → (z : SwitchParts) × (gates_of location kind list ≡ switch_of z) × AreSwitchFit z
-switch_by@location (gates.Logic kind strength time) list f s k = absurd k
-switch_by@location (gates.Switch kind time) list f s k = (((kind, location), (time, (list, tt))), refl, (tt, (f, (s, tt))))
-switch_by@location (gates.Tran kind) list f s k = absurd k
-switch_by@location (gates.Pull kind levels) list f s k = absurd k
+switch_by location (gates.Logic kind strength time) list f s k = absurd k
+switch_by location (gates.Switch kind time) list f s k = (((kind, location), (time, (list, tt))), refl, (tt, (f, (s, tt))))
+switch_by location (gates.Tran kind) list f s k = absurd k
+switch_by location (gates.Pull kind levels) list f s k = absurd k
 
 -- the same of switches that always conduct
 tran_by : (location : Location) (kind : GateKind) (list : List Terms) → fit.AreSome fit.IsFitTerms list → IsTranKind kind → (z : TranParts) × (gates_of location kind list ≡ tran_of z) × AreTranFit z
-tran_by@location (gates.Logic kind strength time) list s k = absurd k
-tran_by@location (gates.Switch kind time) list s k = absurd k
-tran_by@location (gates.Tran kind) list s k = (((kind, location), (list, tt)), refl, (tt, (s, tt)))
-tran_by@location (gates.Pull kind levels) list s k = absurd k
+tran_by location (gates.Logic kind strength time) list s k = absurd k
+tran_by location (gates.Switch kind time) list s k = absurd k
+tran_by location (gates.Tran kind) list s k = (((kind, location), (list, tt)), refl, (tt, (s, tt)))
+tran_by location (gates.Pull kind levels) list s k = absurd k
 
 -- the same of pull gates
 pull_by : (location : Location) (kind : GateKind) (list : List Terms) → fit.AreSome fit.IsFitTerms list → IsPullKind kind → (z : PullParts) × (gates_of location kind list ≡ pull_of z) × ArePullFit z
-pull_by@location (gates.Logic kind strength time) list s k = absurd k
-pull_by@location (gates.Switch kind time) list s k = absurd k
-pull_by@location (gates.Tran kind) list s k = absurd k
-pull_by@location (gates.Pull kind levels) list s k = (((kind, location), (levels, (list, tt))), refl, (tt, (free_there levels, (s, tt))))
+pull_by location (gates.Logic kind strength time) list s k = absurd k
+pull_by location (gates.Switch kind time) list s k = absurd k
+pull_by location (gates.Tran kind) list s k = absurd k
+pull_by location (gates.Pull kind levels) list s k = (((kind, location), (levels, (list, tt))), refl, (tt, (free_there levels, (s, tt))))
 
 -- the first of several parts stands before the rest
 first_of : (a b c d : List Written) → ((a ++ b) ++ c) ++ d ≡ a ++ ((b ++ c) ++ d)
@@ -332,7 +334,7 @@ closes_is : (f : Form) → is_mark 41 f ≡ true → f ≡ form.Mark 41
 closes_is (form.Mark b) e = ap form.Mark (eqb-true b 41 e)
 closes_is f e = absurd cc
 
--- connections by@location begin with no `.`
+-- connections by place begin with no `.`
 places_dotless : (values : List (Option Expr)) (ws : List Written) → fit.AreSome (fit.IsFitIfThere fit.IsFitExpr) values → closes ws ≡ true → begins (sees_mark 46) (between_commas (written_if_there spell.expr) values ++ ws) ≡ false
 places_dotless [] ws f follow = absurd (omega (arith, f.some))
 places_dotless (None ∷ []) ws f follow = ap (is_mark 46) (closes_is (first_form ws) follow)
@@ -349,7 +351,7 @@ names_dotted (c ∷ list) ws f = refl
 abbrev AreByName : Connections → Type 0
 AreByName c = (list : List Connection) × (c ≡ ByName list) × fit.AreSome fit.IsFitConnection list
 
--- connections by@location that fit
+-- connections by place that fit
 abbrev AreByPlace : Connections → Type 0
 AreByPlace c = (values : List (Option Expr)) × (c ≡ ByPlace values) × fit.AreSome (fit.IsFitIfThere fit.IsFitExpr) values
 

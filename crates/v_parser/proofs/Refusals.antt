@@ -1,5 +1,5 @@
 -- What is refused is a token of the list.
-use Rattle.std.proofs.Common.{◌≡◌, ◌≢◌, ℕ, zero, suc, Bool, true, false, List, [], ◌∷◌, ◌++◌, length, drop, codes, Option, Some, None, Ok, Err, if◌then◌else◌, refl, ap, subst, ◌∙◌, add-one}
+use Rattle.std.proofs.Common.{◌≡◌, ◌≢◌, ℕ, zero, suc, ◌+◌, Bool, true, false, List, [], ◌∷◌, ◌++◌, length, drop, codes, Option, Some, None, Ok, Err, if◌then◌else◌, refl, ap, subst, ◌∙◌, add-one}
 use Rattle.std.specs.Prelude.{slice_get}
 use Rattle.v_lexer.specs.declared.token.Token.{Token}
 use Rattle.v_lexer.specs.declared.token.TokenKind.TheVariants.{End}
@@ -16,6 +16,8 @@ use Rattle.v_parser.specs.Expressions as read
 use Rattle.v_parser.specs.Drives as drives
 use Rattle.v_parser.specs.Declarations as declare
 use Rattle.v_parser.specs.Gates as gate
+use Rattle.v_parser.specs.Directives as directive
+use Rattle.v_parser.specs.Blocks as block
 use Rattle.v_parser.specs.Modules as modules
 use Rattle.v_parser.specs.Primitives as udp
 use Rattle.v_parser.specs.Descriptions as all_of
@@ -328,25 +330,30 @@ charge_safe : Safe drives.charge
 unfolding drives.charge
 charge_safe = map_safe _ (pair_safe (skip_safe 40) (pair_safe charge_named_safe (skip_safe 41)))
 
--- `: number : number`
+-- a number or a decimal
+amount_safe : Safe drives.amount
+unfolding drives.amount
+amount_safe = map_safe _ (token_safe drives.amount_in refl)
+
+-- `: amount : amount`
 other_values_safe : Safe drives.other_values
 unfolding drives.other_values
-other_values_safe = map_safe _ (pair_safe (skip_safe 58) (pair_safe number_safe (pair_safe (skip_safe 58) number_safe)))
+other_values_safe = map_safe _ (pair_safe (skip_safe 58) (pair_safe amount_safe (pair_safe (skip_safe 58) amount_safe)))
 
--- a number, or three with `:` between
+-- an amount, or three with `:` between
 delay_value_safe : Safe drives.delay_value
 unfolding drives.delay_value
-delay_value_safe = map_safe _ (pair_safe number_safe (optional_safe _ other_values_safe))
+delay_value_safe = map_safe _ (pair_safe amount_safe (optional_safe _ other_values_safe))
 
 -- `( value , .. )`
 delay_values_safe : Safe drives.delay_values
 unfolding drives.delay_values
 delay_values_safe = map_safe _ (pair_safe (skip_safe 40) (pair_safe (separated_safe delay_value_safe) (skip_safe 41)))
 
--- `# number` or `# ( value , .. )`
+-- `# amount` or `# ( value , .. )`
 delay_spec_safe : Safe drives.delay_spec
 unfolding drives.delay_spec
-delay_spec_safe = map_safe _ (pair_safe (mark_safe 35) (choice_safe _ (map_safe _ number_safe) delay_values_safe))
+delay_spec_safe = map_safe _ (pair_safe (mark_safe 35) (choice_safe _ (map_safe _ amount_safe) delay_values_safe))
 
 -- ---- declarations and assignments
 
@@ -437,7 +444,7 @@ connection_safe : Safe gate.connection
 unfolding gate.connection
 connection_safe = map_safe _ (pair_safe (mark_safe 46) (pair_safe name_safe (pair_safe (skip_safe 40) (pair_safe (optional_safe _ expr_safe) (skip_safe 41)))))
 
--- connections by name, or by@location
+-- connections by name, or by place
 connections_safe : Safe gate.connections
 unfolding gate.connections
 connections_safe = choice_safe _ (map_safe _ (separated_safe connection_safe)) (map_safe _ (separated_safe (optional_safe _ expr_safe)))
@@ -453,12 +460,77 @@ unfolding gate.instance
 instance_safe = map_safe _ (pair_safe name_safe
     (pair_safe (optional_safe _ drive_safe) (pair_safe (optional_safe _ delay_spec_safe) (pair_safe (separated_safe inst_safe) (skip_safe 59)))))
 
+-- ---- directives and blocks
+
+-- a directive, with its location
+directive_word_safe : (bytes : List ℕ) → Safe (input.directive_word bytes)
+unfolding input.directive_word
+directive_word_safe bytes = map_safe _ (token_safe (λ f. where_true (input.is_directive bytes f)) refl)
+
+-- a cell
+cell_safe : Safe directive.cell
+unfolding directive.cell
+cell_safe = map_safe _ (token_safe directive.cell_in refl)
+
+-- a number and a unit
+scale_safe : Safe directive.scale
+unfolding directive.scale directive.factor directive.unit
+scale_safe = map_safe _ (pair_safe (map_safe _ (token_safe directive.factor_in refl)) (map_safe _ (token_safe directive.unit_in refl)))
+
+-- a scale of times
+timescale_safe : Safe directive.timescale
+unfolding directive.timescale
+timescale_safe = map_safe _ (pair_safe (directive_word_safe (codes "`timescale")) (pair_safe scale_safe (pair_safe (skip_safe 47) scale_safe)))
+
+-- a type of implicit nets
+default_nettype_safe : Safe directive.default_nettype
+unfolding directive.default_nettype directive.default
+default_nettype_safe = map_safe _ (pair_safe (directive_word_safe (codes "`default_nettype")) (map_safe _ (token_safe directive.default_in refl)))
+
+-- a directive
+directive_safe : Safe directive.directive
+unfolding directive.directive directive.defaults directive.resets
+directive_safe = choice_safe _ (map_safe _ timescale_safe) (choice_safe _ (map_safe _ default_nettype_safe) (choice_safe _ (map_safe _ (directive_word_safe (codes "`resetall"))) (map_safe _ cell_safe)))
+
+-- the tokens inside a block, in so many turns at most
+passed_from_safe : (n count : ℕ) → Safe (block.passed_from n count)
+unfolding block.passed_from
+passed_from_safe zero count = pure_safe count
+passed_from_safe (suc n) count = record { safe = λ text all i within. by (passed_from_safe n (count + 1)) text all i within (block.ends_block (front i)) refl }
+  where
+    by : Safe (block.passed_from n (count + 1)) → (text : List ℕ) (all : List Token) (i : Input) → IsWithin text all i → (ended : Bool) → block.ends_block (front i) ≡ ended
+        → IsSafe text all (if ended then Ok (count, i) else block.passed_from n (count + 1) (next i))
+    by rest text all i within true is = within
+    by rest text all i within false is =
+        let more : front i ≢ form.End = λ (end : front i ≡ form.End). (let same = ap block.ends_block end in cc) in
+        rest.safe text all (next i) (goes_on text all i within more)
+
+-- the tokens inside a block
+passed_safe : Safe block.passed
+unfolding block.passed
+passed_safe = record { safe = λ text all i within. (passed_from_safe (length i.tokens) 0).safe text all i within }
+
+-- a block that is passed over
+specify_block_safe : Safe block.specify_block
+unfolding block.specify_block
+specify_block_safe = map_safe _ (pair_safe (word_safe (codes "specify")) (pair_safe passed_safe (skip_word_safe (codes "endspecify"))))
+
 -- ---- modules
 
--- pull gates or instances
+-- blocks or instances
+blocks_safe : Safe modules.blocks
+unfolding modules.blocks
+blocks_safe = choice_safe _ (map_safe _ specify_block_safe) (map_safe _ instance_safe)
+
+-- cells or what comes later
+cells_safe : Safe modules.cells
+unfolding modules.cells
+cells_safe = choice_safe _ (map_safe _ cell_safe) blocks_safe
+
+-- pull gates or what comes later
 pulls_safe : Safe modules.pulls
 unfolding modules.pulls
-pulls_safe = choice_safe _ (map_safe _ pull_item_safe) (map_safe _ instance_safe)
+pulls_safe = choice_safe _ (map_safe _ pull_item_safe) cells_safe
 
 -- pass gates or what comes later
 trans_safe : Safe modules.trans
@@ -669,10 +741,10 @@ udp_safe : Safe udp.udp
 unfolding udp.udp
 udp_safe = map_safe _ (pair_safe (word_safe (codes "primitive")) (pair_safe name_safe (pair_safe header_safe (pair_safe (skip_safe 59) body_safe))))
 
--- a module or a primitive
+-- a module, a primitive or a directive
 description_safe : Safe all_of.description
-unfolding all_of.description
-description_safe = choice_safe _ (map_safe _ udp_safe) (map_safe _ module_at_safe)
+unfolding all_of.description all_of.others
+description_safe = choice_safe _ (map_safe _ udp_safe) (choice_safe _ (map_safe _ directive_safe) (map_safe _ module_at_safe))
 
 -- ---- the end of the text
 

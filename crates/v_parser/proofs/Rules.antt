@@ -62,7 +62,7 @@ next_length text number [] h = absurd (omega arith)
 next_length text number (token ∷ tokens) h = refl
 
 -- one token fewer is left after the next one
-next_shorter : (i : Input) → 0 < length i.tokens → suc (length (next i).tokens) ≡ length i.tokens
+pub next_shorter : (i : Input) → 0 < length i.tokens → suc (length (next i).tokens) ≡ length i.tokens
 unfolding next
 next_shorter i h = next_length i.text i.number i.tokens h
 
@@ -72,7 +72,7 @@ next_sound text number [] few sound = record { few = few; sound = sound }
 next_sound text number (token ∷ tokens) few sound = record { few = omega arith; sound = sound.1 }
 
 -- what is left after the next token is as sound
-next_source : (i : Input) → IsSource i → IsSource (next i)
+pub next_source : (i : Input) → IsSource i → IsSource (next i)
 unfolding next
 next_source i h = next_sound i.text i.number i.tokens h.few h.sound
 
@@ -608,26 +608,3 @@ here_rule {A} {p} {written} {IsFit} {may_follow} rule unkept = record {
 -- an input with all tokens of a text
 abbrev pub whole : List ℕ → List Token → Input
 whole text tokens = record { text = text; tokens = tokens; number = 0 }
-
--- all tokens are taken where they are what is written, one by one
-pub written_takes : (text : List ℕ) (number : ℕ) (tokens : List Token) (ws : List Written) → AreWritten text number tokens ws
-    → (j : Input) × IsEnd j × Takes (record { text = text; tokens = tokens; number = number }) ws j
-unfolding front location next
-written_takes text number [] [] h = (record { text = text; tokens = []; number = number }, refl, refl)
-written_takes text number [] (w ∷ ws) h = absurd h
-written_takes text number (token ∷ tokens) [] h = absurd h
-written_takes text number (token ∷ tokens) (w ∷ ws) h =
-    let r = written_takes text (number + 1) tokens ws h.1 in
-    (r.0, r.1, (record { some = omega arith; form = h.0.form; kept = h.0.location }, r.2))
-
--- what is written is what the tokens are, where all are taken
-pub takes_written : (text : List ℕ) (number : ℕ) (tokens : List Token) (ws : List Written) (j : Input) → IsEnd j → Takes (record { text = text; tokens = tokens; number = number }) ws j
-    → AreWritten text number tokens ws
-unfolding front location next
-takes_written text number [] [] j end t = tt
-takes_written text number [] (w ∷ ws) j end t = absurd (omega (arith, t.0.some))
-takes_written text number (token ∷ tokens) [] j end t =
-    let none : length (token ∷ tokens) ≡ length j.tokens = ap (λ (k : Input). length k.tokens) t in
-    let ended : length j.tokens ≡ 0 = ap (λ (ts : List Token). length ts) end in
-    absurd (omega arith)
-takes_written text number (token ∷ tokens) (w ∷ ws) j end t = (record { form = t.0.form; location = t.0.kept }, takes_written text (number + 1) tokens ws j end t.1)

@@ -33,7 +33,7 @@ use Rattle.v_tree.specs.Written as form
 use Rattle.v_tree.specs.Fit as fit
 use Rattle.v_tree.specs.Words as words
 use Rattle.v_tree.specs.Spelling as spell
-use Rattle.v_parser.specs.Input.{token, is_mark, is_symbol, is_word, is_finish, word_in, where_true, name_in, number_in, based_in, ◌<$>◌}
+use Rattle.v_parser.specs.Input.{token, is_mark, is_symbol, is_word, is_directive, is_finish, word_in, where_true, name_in, number_in, based_in, ◌<$>◌}
 use Rattle.v_parser.specs.Input as input
 use Rattle.v_parser.specs.Words.{named, chosen, level_with}
 use Rattle.v_parser.specs.Words as stands
@@ -131,8 +131,17 @@ pub finish_is : (f : Form) → is_finish f ≡ true → f ≡ form.End
 finish_is form.End e = refl
 finish_is f e = absurd cc
 
+-- a directive that is seen is the directive
+pub directive_is : (bytes : List ℕ) (f : Form) → is_directive bytes f ≡ true → f ≡ form.Directive bytes
+directive_is bytes (form.Directive d) e = ap form.Directive ((bytes_eq-Decides d bytes).0 e)
+directive_is bytes f e = absurd cc
+
+-- a directive is seen as itself
+directive_back : (bytes : List ℕ) → where_true (is_directive bytes (form.Directive bytes)) ≡ Some tt
+directive_back bytes = ap where_true ((bytes_eq-Decides bytes bytes).1 refl)
+
 -- a token that a test takes, with its location
-tested_rule : (test : Form → Bool) (says : Form) → test form.Other ≡ false → ((f : Form) → test f ≡ true → f ≡ says) → where_true (test says) ≡ Some tt
+pub tested_rule : (test : Form → Bool) (says : Form) → test form.Other ≡ false → ((f : Form) → test f ≡ true → f ≡ says) → where_true (test says) ≡ Some tt
     → Rule ((λ (p : Unit {0} × Location). p.1) <$> token (λ f. where_true (test f))) (λ (location : Location). at location says ∷ []) fit.IsFree anything
 tested_rule test says other is back =
     map_rule (token_rule (λ f. where_true (test f)) (λ u. says) fit.IsFree (ap where_true other) (λ f u e. is f (where_holds (test f) u e)) (λ f u sound e. tt) (λ u free. back))
@@ -173,6 +182,11 @@ pub word_rule : (bytes : List ℕ) → Rule (input.word bytes) (λ location. spe
 unfolding input.word
 word_rule bytes = tested_rule (is_word bytes) (form.Word bytes) refl (word_is bytes) (word_back bytes)
 
+-- a directive, with its location
+pub directive_word_rule : (bytes : List ℕ) → Rule (input.directive_word bytes) (λ location. spell.placed_directive location bytes ∷ []) fit.IsFree anything
+unfolding input.directive_word
+directive_word_rule bytes = tested_rule (is_directive bytes) (form.Directive bytes) refl (directive_is bytes) (directive_back bytes)
+
 -- a word
 pub skip_word_rule : (bytes : List ℕ) → Rule (input.skip_word bytes) (λ u. spell.word bytes ∷ []) fit.IsFree anything
 unfolding input.skip_word
@@ -186,7 +200,7 @@ finish_rule = skipped_rule is_finish form.End refl finish_is refl
 -- ---- words that stand for something
 
 -- what a table gives for a word is that word's
-named_is : {A : Type 0} (word_of : A → List ℕ) (table : List (List ℕ × A)) (word : List ℕ) (x : A) → named table word ≡ Some x
+pub named_is : {A : Type 0} (word_of : A → List ℕ) (table : List (List ℕ × A)) (word : List ℕ) (x : A) → named table word ≡ Some x
     → AllByRecursion (λ (entry : List ℕ × A). entry.0 ≡ word_of entry.1) table → word ≡ word_of x
 named_is word_of [] word x e all = absurd cc
 named_is {A} word_of (entry ∷ entries) word x e all = by (bytes_eq word entry.0) (bytes_eq-Decides word entry.0).0 e (λ later. named_is word_of entries word x later all.1)

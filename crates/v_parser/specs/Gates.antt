@@ -67,7 +67,7 @@ connection_of z = record { location = z.0; port = z.1.0; value = z.1.1.1.0 }
 unfoldable pub connection : Reader Connection
 connection = connection_of <$> (mark 46 & name & skip 40 & optional begins_expr expr & skip 41)
 
--- connections by name, or by@location
+-- connections by name, or by place
 unfoldable pub connections : Reader Connections
 connections = choice (sees_mark 46) (ByName <$> separated connection) (ByPlace <$> separated (optional begins_expr expr))
 

@@ -192,6 +192,15 @@ abbrev pub word_in : Form → Option (List ℕ)
 word_in (form.Word w) = Some w
 word_in _ = None
 
+-- a directive, with its backquote
+abbrev pub directive_in : Form → Option (List ℕ)
+directive_in (form.Directive d) = Some d
+directive_in _ = None
+
+abbrev pub is_directive : List ℕ → Form → Bool
+is_directive bytes (form.Directive d) = bytes_eq d bytes
+is_directive bytes _ = false
+
 abbrev pub where_true : Bool → Option (Unit {0})
 where_true b = if b then Some tt else None
 
@@ -214,6 +223,10 @@ word bytes = (λ p. p.1) <$> token (λ f. where_true (is_word bytes f))
 -- a word
 unfoldable pub skip_word : List ℕ → Reader (Unit {0})
 skip_word bytes = (λ p. p.0) <$> token (λ f. where_true (is_word bytes f))
+
+-- a directive, with its location
+unfoldable pub directive_word : List ℕ → Reader Location
+directive_word bytes = (λ p. p.1) <$> token (λ f. where_true (is_directive bytes f))
 
 -- the end of the text
 unfoldable pub finish : Reader (Unit {0})

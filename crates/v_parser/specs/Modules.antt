@@ -19,14 +19,24 @@ use Rattle.v_parser.specs.Input.{Reader, ◌<$>◌, ◌&◌, pure, token, skip, 
 use Rattle.v_parser.specs.Expressions.{sees_mark, sees_name, range}
 use Rattle.v_parser.specs.Words.{direction_in, sees_direction, sees_net_type, opening_in, sees_logic, sees_switch, sees_tran, sees_pull}
 use Rattle.v_parser.specs.Declarations.{net_type, port_decl, net_decl, trireg_decl, assign_item}
+use Rattle.v_parser.specs.Directives.{sees_some_directive, cell}
+use Rattle.v_parser.specs.Blocks.{specify_block}
 use Rattle.v_parser.specs.Gates.{logic_item, switch_item, tran_item, pull_item, instance}
 
 abbrev pub sees_word : List ℕ → Form → Form → Bool
 sees_word bytes f g = is_word bytes f
 
+-- blocks that are passed over, or instances
+unfoldable pub blocks : Reader Item
+blocks = choice (sees_word (codes "specify")) (item.Specify <$> specify_block) (item.Instances <$> instance)
+
+-- cells, or what comes later
+unfoldable pub cells : Reader Item
+cells = choice sees_some_directive (item.Cell <$> cell) blocks
+
 -- gates of a kind
 unfoldable pub pulls : Reader Item
-pulls = choice sees_pull (item.Gates <$> pull_item) (item.Instances <$> instance)
+pulls = choice sees_pull (item.Gates <$> pull_item) cells
 
 unfoldable pub trans : Reader Item
 trans = choice sees_tran (item.Gates <$> tran_item) pulls

@@ -4,13 +4,13 @@ ghost use Rattle.std.specs.Prelude.{◌≡◌};
 ghost use Rattle.v_parser.specs.Input as input;
 ghost use Rattle.v_parser.specs.Input.{Reads};
 ghost use Rattle.v_parser.specs.Drives as spec;
-ghost use Rattle.v_parser.specs.Expressions.{sees_mark, sees_number};
+ghost use Rattle.v_parser.specs.Expressions.{sees_mark};
 
 use crate::cursor::Cursor;
 use crate::fault::ParseFault;
 use crate::lists::{Part, separated};
 use crate::words::{sees, word_for};
-use v_tree::{Charge, Delay, DelaySpec, DelayValue, DriveStrength, Level, PullLevels};
+use v_tree::{Amount, Charge, Delay, DelaySpec, DelayValue, DriveStrength, Level, PullLevels};
 
 /// A level, without its location.
 #[tactic(auto, unfolding(crate::specs::Drives::level))]
@@ -150,21 +150,21 @@ pub fn charge_if_there(cursor: &mut Cursor<'_>) -> Result<Option<Charge>, ParseF
     }
 }
 
-/// `: number : number`
+/// `: amount : amount`
 #[tactic(auto, unfolding(crate::specs::Drives::other_values))]
-fn other_values(cursor: &mut Cursor<'_>) -> Result<(u32, u32), ParseFault>
+fn other_values(cursor: &mut Cursor<'_>) -> Result<(Amount, Amount), ParseFault>
     ensures { Reads (spec.other_values cursor.old) result cursor.new }
 {
     cursor.skip(b':')?;
-    let typical = cursor.number()?;
+    let typical = cursor.amount()?;
     cursor.skip(b':')?;
-    let greatest = cursor.number()?;
+    let greatest = cursor.amount()?;
     Ok((typical, greatest))
 }
 
 /// Two more values, where a `:` comes next.
 #[tactic(auto, unfolding(crate::specs::Input::optional))]
-fn other_values_if_there(cursor: &mut Cursor<'_>) -> Result<Option<(u32, u32)>, ParseFault>
+fn other_values_if_there(cursor: &mut Cursor<'_>) -> Result<Option<(Amount, Amount)>, ParseFault>
     ensures { Reads (input.optional (sees_mark 58) spec.other_values cursor.old) result cursor.new }
 {
     if cursor.sees_mark(b':') {
@@ -174,12 +174,12 @@ fn other_values_if_there(cursor: &mut Cursor<'_>) -> Result<Option<(u32, u32)>, 
     }
 }
 
-/// A number, or three with `:` between.
+/// An amount, or three with `:` between.
 #[tactic(auto, unfolding(crate::specs::Drives::delay_value))]
 fn delay_value(cursor: &mut Cursor<'_>) -> Result<DelayValue, ParseFault>
     ensures { Reads (spec.delay_value cursor.old) result cursor.new }
 {
-    let value = cursor.number()?;
+    let value = cursor.amount()?;
     match other_values_if_there(cursor)? {
         Some((typical, greatest)) => Ok(DelayValue::Three(value, typical, greatest)),
         None => Ok(DelayValue::One(value)),
@@ -207,19 +207,19 @@ fn delay_values(cursor: &mut Cursor<'_>) -> Result<Delay, ParseFault>
     Ok(Delay::Values(values))
 }
 
-/// A number, or values in parentheses.
+/// An amount, or values in parentheses.
 #[tactic(auto, unfolding(crate::specs::Input::choice))]
 fn delay(cursor: &mut Cursor<'_>) -> Result<Delay, ParseFault>
     ensures { Reads (spec.delay cursor.old) result cursor.new }
 {
-    if cursor.sees_number() {
-        Ok(Delay::Number(cursor.number()?))
+    if cursor.sees_amount() {
+        Ok(Delay::Amount(cursor.amount()?))
     } else {
         delay_values(cursor)
     }
 }
 
-/// `# number` or `# ( value , .. )`
+/// `# amount` or `# ( value , .. )`
 #[tactic(auto, unfolding(crate::specs::Drives::delay_spec))]
 fn delay_spec(cursor: &mut Cursor<'_>) -> Result<DelaySpec, ParseFault>
     ensures { Reads (spec.delay_spec cursor.old) result cursor.new }

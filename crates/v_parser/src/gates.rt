@@ -184,7 +184,7 @@ impl Part for Connection {
     }
 }
 
-/// Connections by name, or by@location.
+/// Connections by name, or by place.
 #[tactic(auto, unfolding(crate::specs::Gates::connections, crate::specs::Input::choice))]
 fn connections(cursor: &mut Cursor<'_>) -> Result<Connections, ParseFault>
     ensures { Reads (spec.connections cursor.old) result cursor.new }

@@ -1,6 +1,7 @@
 //! What reserved words stand for.
 
 ghost use Rattle.std.specs.Prelude.{◌≡◌, is_some};
+ghost use Rattle.std.specs.Option.{option_copied};
 ghost use Rattle.v_parser.specs.Input as input;
 ghost use Rattle.v_parser.specs.Input.{Reads};
 ghost use Rattle.v_parser.specs.Words as spec;
@@ -24,14 +25,21 @@ pub trait Meaning: Sized + Copy {
         ensures { result ≡ stands_for word.now };
 }
 
+/// What was seen stands for, where it is one of the words.
+pub fn meant_by<M: Meaning>(seen: Option<&[u8]>) -> Option<M>
+    ensures { result ≡ spec.chosen M.stands_for (option_copied seen.entry) }
+{
+    match seen {
+        Some(word) => M::of(word),
+        None => None,
+    }
+}
+
 /// What the next token stands for, where it is one of the words.
 fn meant<M: Meaning>(cursor: &Cursor<'_>) -> Option<M>
     ensures { result ≡ spec.chosen M.stands_for (input.word_in (input.front cursor.now)) }
 {
-    match cursor.seen_word() {
-        Some(word) => M::of(word),
-        None => None,
-    }
+    meant_by::<M>(cursor.seen_word())
 }
 
 /// Whether the next token is one of the words.

@@ -88,10 +88,10 @@ pub struct Connection {
 /// Connections by name, with commas between.
 pub type ConnectionList = Items<Connection>;
 
-/// Connections by@location, with commas between, each of which may be empty.
+/// Connections by place, with commas between, each of which may be empty.
 pub type OptionalExprList = Items<Option<Expr>>;
 
-/// The connections of an instance: by@location, or by name. `()` is one empty connection by@location.
+/// The connections of an instance: by place, or by name. `()` is one empty connection by place.
 #[derive(Drop)]
 pub enum Connections {
     ByPlace(OptionalExprList),
