@@ -1,6 +1,7 @@
 //! Trees as the tables of tests have them.
 
 use crate::ParseFault;
+use byte_lists::Bytes;
 use std::alloc::AllocError;
 use std::fmt::Write;
 use udp_table::{Base, Sym};
@@ -57,7 +58,11 @@ fn bit_letter(bit: Bit) -> char {
 fn show_literal(shown: &mut String, literal: &Literal) -> Result<(), AllocError> {
     match literal.size {
         Some(size) => write!(shown, "{size}b")?,
-        None => shown.push_str("-b")?,
+        None => {
+            shown.push('-')?;
+            shown.push(bit_letter(literal.extension))?;
+            shown.push('b')?;
+        }
     }
     for bit in literal.bits.as_slice() {
         shown.push(bit_letter(*bit))?;
@@ -138,6 +143,25 @@ fn show_levels(shown: &mut String, levels: &Option<PullLevels>) -> Result<(), Al
     Ok(())
 }
 
+fn show_digits(shown: &mut String, digits: &Bytes) -> Result<(), AllocError> {
+    for digit in digits.as_slice() {
+        write!(shown, "{digit}")?;
+    }
+    Ok(())
+}
+
+fn show_amount(shown: &mut String, amount: &Amount) -> Result<(), AllocError> {
+    match amount {
+        Amount::Number(n) => write!(shown, "{n}")?,
+        Amount::Decimal(digits) => {
+            show_digits(shown, &digits.whole)?;
+            shown.push('.')?;
+            show_digits(shown, &digits.fraction)?;
+        }
+    }
+    Ok(())
+}
+
 fn show_values(shown: &mut String, values: &DelayValueList) -> Result<(), AllocError> {
     shown.push('(')?;
     for (i, value) in values.as_slice().iter().enumerate() {
@@ -145,8 +169,14 @@ fn show_values(shown: &mut String, values: &DelayValueList) -> Result<(), AllocE
             shown.push(',')?;
         }
         match value {
-            DelayValue::One(n) => write!(shown, "{n}")?,
-            DelayValue::Three(a, b, c) => write!(shown, "{a}:{b}:{c}")?,
+            DelayValue::One(amount) => show_amount(shown, amount)?,
+            DelayValue::Three(a, b, c) => {
+                show_amount(shown, a)?;
+                shown.push(':')?;
+                show_amount(shown, b)?;
+                shown.push(':')?;
+                show_amount(shown, c)?;
+            }
         }
     }
     shown.push_str(") ")
@@ -157,7 +187,10 @@ fn show_delay(shown: &mut String, delay: &Option<DelaySpec>) -> Result<(), Alloc
         let token = spec.location.token;
         write!(shown, "{token}#")?;
         match &spec.delay {
-            Delay::Number(n) => write!(shown, "{n} ")?,
+            Delay::Amount(amount) => {
+                show_amount(shown, amount)?;
+                shown.push(' ')?;
+            }
             Delay::Values(values) => show_values(shown, values)?,
         }
     }
@@ -364,6 +397,47 @@ fn show_port_decl(shown: &mut String, decl: &PortDecl) -> Result<(), AllocError>
     show_names(shown, &decl.names)
 }
 
+fn show_cell(shown: &mut String, cell: &Cell) -> Result<(), AllocError> {
+    let token = cell.location.token;
+    let word = cell.word;
+    write!(shown, "{token}:{word:?}")?;
+    Ok(())
+}
+
+fn show_block(shown: &mut String, block: &SpecifyBlock) -> Result<(), AllocError> {
+    let token = block.location.token;
+    let count = block.token_count;
+    write!(shown, "{token}:Specify {count}")?;
+    Ok(())
+}
+
+fn show_default(shown: &mut String, default: &DefaultNettype) -> Result<(), AllocError> {
+    let token = default.location.token;
+    match default.net_type {
+        Some(net_type) => write!(shown, "{token}:Default {net_type:?}")?,
+        None => write!(shown, "{token}:Default none")?,
+    }
+    Ok(())
+}
+
+fn show_directive(shown: &mut String, directive: &Directive) -> Result<(), AllocError> {
+    match directive {
+        Directive::Timescale(timescale) => {
+            let token = timescale.location.token;
+            let unit = timescale.unit;
+            let precision = timescale.precision;
+            write!(shown, "{token}:Timescale {unit}/{precision}")?;
+        }
+        Directive::DefaultNettype(default) => show_default(shown, default)?,
+        Directive::Resetall(location) => {
+            let token = location.token;
+            write!(shown, "{token}:Resetall")?;
+        }
+        Directive::Cell(cell) => show_cell(shown, cell)?,
+    }
+    shown.push(';')
+}
+
 fn show_item(shown: &mut String, item: &Item) -> Result<(), AllocError> {
     match item {
         Item::Ports(decl) => show_port_decl(shown, decl),
@@ -372,6 +446,8 @@ fn show_item(shown: &mut String, item: &Item) -> Result<(), AllocError> {
         Item::Assign(item) => show_assign(shown, item),
         Item::Gates(item) => show_gates(shown, item),
         Item::Instances(instance) => show_instance(shown, instance),
+        Item::Cell(cell) => show_cell(shown, cell),
+        Item::Specify(block) => show_block(shown, block),
     }
 }
 
@@ -587,18 +663,25 @@ fn show_udp(shown: &mut String, udp: &UdpDecl) -> Result<(), AllocError> {
     shown.push(';')
 }
 
+fn show_space(shown: &mut String) -> Result<(), AllocError> {
+    if !shown.is_empty() {
+        shown.push(' ')?;
+    }
+    Ok(())
+}
+
 fn show_file(shown: &mut String, file: &File) -> Result<(), AllocError> {
-    for (i, module) in file.modules.as_slice().iter().enumerate() {
-        if i > 0 {
-            shown.push(' ')?;
-        }
+    for module in file.modules.as_slice() {
+        show_space(shown)?;
         show_module(shown, module)?;
     }
-    for (i, udp) in file.udps.as_slice().iter().enumerate() {
-        if i > 0 || !file.modules.is_empty() {
-            shown.push(' ')?;
-        }
+    for udp in file.udps.as_slice() {
+        show_space(shown)?;
         show_udp(shown, udp)?;
+    }
+    for directive in file.directives.as_slice() {
+        show_space(shown)?;
+        show_directive(shown, directive)?;
     }
     Ok(())
 }
