@@ -16,8 +16,8 @@ use gate_net::Netlist;
 use std::alloc::Global;
 use v_lexer::ReservedWords;
 use v_tree::{
-    Declared, Directive, Expr, File, GateItem, GateKind, LogicGate, Name, NetDecl, NetType, Pick, PortDecl,
-    Ports, Terms, UdpDecl,
+    Declared, Directive, Expr, File, GateItem, GateKind, LogicGate, Name, NetDecl, NetType, Pick,
+    PortDecl, Ports, Terms, UdpDecl,
 };
 
 /// The ports that a header names, where it doesn't declare them.

@@ -16,7 +16,10 @@ const LOCATION: Location = Location { line: 1, token: 0 };
 
 fn name_of(alloc: Global, text: &str) -> Result<Name, AllocError> {
     let text = Bytes::from_vec(text.as_bytes().to_vec(alloc)?);
-    Ok(Name { location: LOCATION, text })
+    Ok(Name {
+        location: LOCATION,
+        text,
+    })
 }
 
 fn names_of(alloc: Global, texts: &[&str]) -> Result<PlacedNameList, AllocError> {

@@ -424,8 +424,16 @@ fn a_large_text_has_all_its_tokens(rt: HostRuntime) -> Result<(), Fail> {
             let line = i / 3;
             if line < 200000 {
                 assert_eq!(rt; token.kind, kind, "at {i}");
-                assert_eq!(rt; token.start as usize, (8 * line).saturating_add(start), "at {i}");
-                assert_eq!(rt; token.end as usize, (8 * line).saturating_add(end), "at {i}");
+                assert_eq!(rt;
+                    token.start as usize,
+                    (8 * line).saturating_add(start),
+                    "at {i}"
+                );
+                assert_eq!(rt;
+                    token.end as usize,
+                    (8 * line).saturating_add(end),
+                    "at {i}"
+                );
                 assert_eq!(rt; token.line as usize, line + 1, "at {i}");
             }
         }

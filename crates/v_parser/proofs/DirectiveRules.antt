@@ -192,12 +192,43 @@ whole_made : AllBelow 3 (λ n. IsMade (pos n))
 whole_made = (((One, units.Second), refl, (tt, tt)), (((Ten, units.Second), refl, (tt, tt)), (((Hundred, units.Second), refl, (tt, tt)), tt)))
 
 part_made : AllBelow 15 (λ n. IsMade (negsuc n))
-part_made =
-    (((Hundred, units.Millisecond), refl, (tt, tt)), (((Ten, units.Millisecond), refl, (tt, tt)), (((One, units.Millisecond), refl, (tt, tt)),
-    (((Hundred, units.Microsecond), refl, (tt, tt)), (((Ten, units.Microsecond), refl, (tt, tt)), (((One, units.Microsecond), refl, (tt, tt)),
-    (((Hundred, units.Nanosecond), refl, (tt, tt)), (((Ten, units.Nanosecond), refl, (tt, tt)), (((One, units.Nanosecond), refl, (tt, tt)),
-    (((Hundred, units.Picosecond), refl, (tt, tt)), (((Ten, units.Picosecond), refl, (tt, tt)), (((One, units.Picosecond), refl, (tt, tt)),
-    (((Hundred, units.Femtosecond), refl, (tt, tt)), (((Ten, units.Femtosecond), refl, (tt, tt)), (((One, units.Femtosecond), refl, (tt, tt)), tt)))))))))))))))
+part_made = (
+  ((Hundred, units.Millisecond), refl, (tt, tt)),
+  (
+    ((Ten, units.Millisecond), refl, (tt, tt)),
+    (
+      ((One, units.Millisecond), refl, (tt, tt)),
+      (
+        ((Hundred, units.Microsecond), refl, (tt, tt)),
+        (
+          ((Ten, units.Microsecond), refl, (tt, tt)),
+          (
+            ((One, units.Microsecond), refl, (tt, tt)),
+            (
+              ((Hundred, units.Nanosecond), refl, (tt, tt)),
+              (
+                ((Ten, units.Nanosecond), refl, (tt, tt)),
+                (
+                  ((One, units.Nanosecond), refl, (tt, tt)),
+                  (
+                    ((Hundred, units.Picosecond), refl, (tt, tt)),
+                    (
+                      ((Ten, units.Picosecond), refl, (tt, tt)),
+                      (
+                        ((One, units.Picosecond), refl, (tt, tt)),
+                        (((Hundred, units.Femtosecond), refl, (tt, tt)), (((Ten, units.Femtosecond), refl, (tt, tt)), (((One, units.Femtosecond), refl, (tt, tt)), tt))),
+                      ),
+                    ),
+                  ),
+                ),
+              ),
+            ),
+          ),
+        ),
+      ),
+    ),
+  ),
+)
 
 scale_from : (power : ℤ) → fit.IsScale power → IsMade power
 scale_from (pos n) f = below 3 (λ k. IsMade (pos k)) whole_made n (let le : n ≤ 2 = search (rules, f.high.le) in omega arith)

@@ -41,7 +41,7 @@ impl<'a> Model for Cursor<'a> {
     ghost invariant = { HasNumbers };
 }
 
-/// The bytes from one location to another, as far as they lie in the text.
+/// The bytes from one offset to another, as far as they lie in the text.
 fn piece(text: &[u8], start: usize, end: usize) -> &[u8]
     ensures { result.now ≡ take (end - start) (drop start text.now) }
 {

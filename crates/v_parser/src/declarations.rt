@@ -14,8 +14,8 @@ use crate::fault::ParseFault;
 use crate::lists::{Part, separated};
 use crate::words::{sees, word_for};
 use v_tree::{
-    AssignItem, Declared, Direction, Expr, Name, NetDecl, NetType, Pair, PortDecl, Range, VectorRange,
-    VectorWord, Target, TriregDecl, ValuedName,
+    AssignItem, Declared, Direction, Expr, Name, NetDecl, NetType, Pair, PortDecl, Range, Target,
+    TriregDecl, ValuedName, VectorRange, VectorWord,
 };
 
 /// An expression whose concatenations stand at most 64 deep.

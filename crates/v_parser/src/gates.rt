@@ -171,7 +171,11 @@ fn connection(cursor: &mut Cursor<'_>) -> Result<Connection, ParseFault>
     cursor.skip(b'(')?;
     let value = expr_if_there(cursor)?;
     cursor.skip(b')')?;
-    Ok(Connection { location, port, value })
+    Ok(Connection {
+        location,
+        port,
+        value,
+    })
 }
 
 impl Part for Connection {

@@ -219,7 +219,11 @@ fn initial(cursor: &mut Cursor<'_>) -> Result<UdpInitial, ParseFault>
     cursor.skip(b'=')?;
     let value = lit(cursor)?;
     cursor.skip(b';')?;
-    Ok(UdpInitial { location, name, value })
+    Ok(UdpInitial {
+        location,
+        name,
+        value,
+    })
 }
 
 /// `initial Name = lit ;`, where the word comes next.

@@ -467,7 +467,10 @@ fn a_long_block_is_passed_over(rt: HostRuntime) -> Result<(), Fail> {
     }
     text.push_str("endspecify tran (a, b); endmodule")?;
     let shown = parsed(rt.alloc(), text.as_str())?;
-    assert_eq!(rt; shown.as_str(), "0:Module m Absent;3:Specify 1000000 1000005:Tran 1000006(a,b)");
+    assert_eq!(rt;
+        shown.as_str(),
+        "0:Module m Absent;3:Specify 1000000 1000005:Tran 1000006(a,b)"
+    );
     Ok(())
 }
 
@@ -496,7 +499,10 @@ fn long_lists_are_whole(rt: HostRuntime) -> Result<(), Fail> {
         write!(wanted, " {token}:Wire c{i}")?;
     }
     text.push_str(" endmodule")?;
-    assert_eq!(rt; parsed(rt.alloc(), text.as_str())?.as_str(), wanted.as_str());
+    assert_eq!(rt;
+        parsed(rt.alloc(), text.as_str())?.as_str(),
+        wanted.as_str()
+    );
     Ok(())
 }
 

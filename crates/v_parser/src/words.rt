@@ -9,8 +9,8 @@ ghost use Rattle.v_parser.specs.Words as spec;
 use crate::cursor::{Cursor, is};
 use crate::fault::ParseFault;
 use v_tree::{
-    Charge, Direction, Level, LogicGate, ModuleWord, NetType, Location, PullGate, VectorWord,
-    Strength, Switch, TranGate,
+    Charge, Direction, Level, Location, LogicGate, ModuleWord, NetType, PullGate, Strength, Switch,
+    TranGate, VectorWord,
 };
 
 /// What some of the reserved words stand for.

@@ -1,6 +1,6 @@
 use crate::drives::{Charge, DelaySpec, DriveStrength};
 use crate::expressions::{Expr, Range, Target};
-use crate::locations::{Name, Location, PlacedNameList};
+use crate::locations::{Location, Name, PlacedNameList};
 use sqlite_items::Items;
 
 /// The direction of a port (IEEE 1364-2005, 12.3.3).

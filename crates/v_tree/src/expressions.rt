@@ -1,4 +1,4 @@
-use crate::locations::{Name, Location};
+use crate::locations::{Location, Name};
 use sqlite_items::Items;
 use v_lexer::Literal;
 

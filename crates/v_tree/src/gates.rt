@@ -1,6 +1,6 @@
 use crate::drives::{DelaySpec, DriveStrength, PullLevels};
 use crate::expressions::{Expr, ExprList};
-use crate::locations::{Name, Location};
+use crate::locations::{Location, Name};
 use sqlite_items::Items;
 
 /// A gate that may have a drive and a delay (IEEE 1364-2005, 7.2 to 7.4).

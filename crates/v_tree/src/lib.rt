@@ -12,11 +12,11 @@ mod modules;
 mod primitives;
 
 pub use declarations::{
-    AssignItem, Declared, Direction, NetDecl, NetType, Pair, PairList, PortDecl, VectorRange,
-    VectorWord, TriregDecl, ValuedName, ValuedNameList,
+    AssignItem, Declared, Direction, NetDecl, NetType, Pair, PairList, PortDecl, TriregDecl,
+    ValuedName, ValuedNameList, VectorRange, VectorWord,
 };
 pub use directives::{
-    Cell, CellWord, ImplicitNetType, DefaultNettype, Directive, DirectiveList, Timescale,
+    Cell, CellWord, DefaultNettype, Directive, DirectiveList, ImplicitNetType, Timescale,
 };
 pub use drives::{
     Amount, Charge, Delay, DelaySpec, DelayValue, DelayValueList, DriveStrength, Level, PullLevels,
@@ -27,11 +27,11 @@ pub use gates::{
     Connection, ConnectionList, Connections, GateItem, GateKind, Inst, InstList, Instance,
     LogicGate, OptionalExprList, PullGate, Switch, Terms, TermsList, TranGate,
 };
+pub use locations::{Location, Name, PlacedNameList};
 pub use modules::{
     AnsiEntry, AnsiEntryList, AnsiPort, Description, File, Item, ItemList, Module, ModuleList,
     ModuleWord, Ports, SpecifyBlock,
 };
-pub use locations::{Name, Location, PlacedNameList};
 pub use primitives::{
     Lit, PlacedRow, PlacedRowList, UdpDecl, UdpDeclList, UdpInitial, UdpInput, UdpInputList,
     UdpItem, UdpItemList, UdpPorts,

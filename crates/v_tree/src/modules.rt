@@ -4,7 +4,7 @@ use crate::declarations::{AssignItem, Direction, NetDecl, NetType, PortDecl, Tri
 use crate::directives::{Cell, Directive, DirectiveList};
 use crate::expressions::Range;
 use crate::gates::{GateItem, Instance};
-use crate::locations::{Name, Location, PlacedNameList};
+use crate::locations::{Location, Name, PlacedNameList};
 use crate::primitives::{UdpDecl, UdpDeclList};
 use sqlite_items::Items;
 

@@ -1,4 +1,4 @@
-use crate::locations::{Name, Location, PlacedNameList};
+use crate::locations::{Location, Name, PlacedNameList};
 use sqlite_items::Items;
 use udp_table::UdpRow;
 use v_lexer::Literal;

@@ -211,7 +211,10 @@ fn show_range_if_there(shown: &mut String, range: &Option<Range>) -> Result<(), 
     Ok(())
 }
 
-fn show_vector_range(shown: &mut String, vector_range: &Option<VectorRange>) -> Result<(), AllocError> {
+fn show_vector_range(
+    shown: &mut String,
+    vector_range: &Option<VectorRange>,
+) -> Result<(), AllocError> {
     if let Some(vector_range) = vector_range {
         if let Some(word) = &vector_range.word {
             write!(shown, "{word:?} ")?;
