@@ -1,12 +1,11 @@
 -- The digits of a decimal by its form.
-use Rattle.std.proofs.Common.{◌≡◌, ℕ, zero, suc, ◌+◌, ◌-◌, ◌<◌, ◌≤◌, Bool, true, false, List, [], ◌∷◌, ◌++◌, length, map, take, drop, refl, sym, ap, subst, ◌∙◌, arith, length-append}
-use Rattle.std.specs.List.{AllByRecursion, prefix_len, list_all}
+use Rattle.std.proofs.Common.{◌≡◌, ℕ, suc, ◌+◌, ◌-◌, ◌<◌, ◌≤◌, true, List, [], ◌∷◌, ◌++◌, length, take, drop, refl, sym, ap, subst, ◌∙◌, arith, length-append}
+use Rattle.std.specs.List.{AllByRecursion, list_all}
 use Rattle.std.specs.Char.{is_ascii_digit}
-use Rattle.std.specs.Int.{is_in_range}
-use Rattle.std.proofs.lemmas.Bool.{and_parts, leb-true}
+use Rattle.std.proofs.lemmas.Bool.{and_parts}
 use Rattle.v_lexer.specs.Bytes.{digit_run}
 use Rattle.v_lexer.specs.Forms.{IsDigits, IsDecimal}
-use Rattle.v_lexer.specs.Values.{digits_in, decimal_digits}
+use Rattle.v_lexer.specs.Values.{digits_in}
 use Rattle.v_lexer.specs.Sound.{AreDigits, HasDigits}
 
 -- digits end where another byte stands

@@ -1,17 +1,16 @@
 -- The rule of blocks that are passed over.
-use Rattle.std.proofs.Common.{◌≡◌, ◌≢◌, ℕ, zero, suc, ◌+◌, ◌<◌, ◌≤◌, ◌^◌, Bool, true, false, ◌||◌, if◌then◌else◌, List, [], ◌∷◌, ◌++◌, length, replicate, codes, Ok, refl, sym, ap, subst, ◌∙◌, arith, inl, inr, length-append}
+use Rattle.std.proofs.Common.{◌≡◌, ℕ, zero, suc, ◌+◌, ◌<◌, ◌≤◌, ◌^◌, Bool, true, false, if◌then◌else◌, List, ◌++◌, length, replicate, codes, Ok, refl, sym, ap, subst, ◌∙◌, arith, inl, inr, length-append}
 use Rattle.std.proofs.lemmas.Bool.{cases_Bool, or_parts}
 use Rattle.std.proofs.lemmas.List.{length-replicate}
 use Rattle.v_tree.specs.declared.locations.Location.{Location}
 use Rattle.v_tree.specs.declared.modules.SpecifyBlock.{SpecifyBlock}
 use Rattle.v_tree.specs.Written.{Form, Spelled, Inside, IsInside}
-use Rattle.v_tree.specs.Written as form
 use Rattle.v_tree.specs.Fit as fit
 use Rattle.v_tree.specs.Spelling as spell
-use Rattle.v_parser.specs.Input.{Input, front, next, is_word, is_finish, word, skip_word}
+use Rattle.v_parser.specs.Input.{Input, front, next, is_word, is_finish}
 use Rattle.v_parser.specs.Blocks.{ends_block, passed_from, passed}
 use Rattle.v_parser.specs.Blocks as read
-use Rattle.v_parser.proofs.Rules.{IsSource, IsEnd, ok_is, ok_of, next_shorter, next_source}
+use Rattle.v_parser.proofs.Rules.{IsSource, ok_is, ok_of, next_shorter, next_source}
 use Rattle.v_parser.proofs.TokenRules.{word_rule, skip_word_rule, word_is, finish_is}
 use Rattle.v_parser.proofs.SpelledRules.{SpelledRule, Spells, begins_with, whatever, begins_front, spells_length, exactly_rule, spelled_map_rule, spelled_refit_rule, spelled_pair_rule}
 

@@ -1,10 +1,9 @@
 -- Rules of directives.
-use Rattle.std.proofs.Common.{◌≡◌, ℕ, zero, suc, ◌<◌, ◌≤◌, ℤ, pos, negsuc, Bool, true, false, eqb, if◌then◌else◌, List, [], ◌∷◌, ◌++◌, codes, Option, Some, None, is_some, ◌⊎◌, inl, inr, refl, sym, ap, subst, ◌∙◌, arith, rules}
-use Rattle.std.specs.Prelude.{◌≤ℤ◌}
+use Rattle.std.proofs.Common.{◌≡◌, ℕ, zero, suc, ◌<◌, ◌≤◌, ℤ, pos, negsuc, Bool, true, false, eqb, if◌then◌else◌, List, [], ◌∷◌, ◌++◌, codes, Option, Some, None, ◌⊎◌, inl, inr, refl, sym, ap, subst, ◌∙◌, arith, rules}
 use Rattle.std.specs.Int.Signed.{le_z_yes}
 use Rattle.std.specs.Option.{option_map}
 use Rattle.std.specs.Str.{bytes_eq}
-use Rattle.std.proofs.lemmas.Bool.{cases_Bool, eqb-true}
+use Rattle.std.proofs.lemmas.Bool.{eqb-true}
 use Rattle.std.proofs.lemmas.Slice.Eq.{bytes_eq-Decides}
 use Rattle.v_tree.specs.declared.locations.Location.{Location}
 use Rattle.v_tree.specs.declared.directives.Cell.{Cell}
@@ -16,7 +15,7 @@ use Rattle.v_tree.specs.declared.directives.ImplicitNetType.TheVariants as impli
 use Rattle.v_tree.specs.declared.directives.DefaultNettype.{DefaultNettype}
 use Rattle.v_tree.specs.declared.directives.Directive.{Directive}
 use Rattle.v_tree.specs.declared.directives.Directive.TheVariants as directives
-use Rattle.v_tree.specs.Written.{Form, Written, at, bare}
+use Rattle.v_tree.specs.Written.{Form, Written, bare}
 use Rattle.v_tree.specs.Written as form
 use Rattle.v_tree.specs.Fit as fit
 use Rattle.v_tree.specs.Words as words
@@ -25,7 +24,6 @@ use Rattle.v_parser.specs.declared.directives.ScaleFactor.{ScaleFactor}
 use Rattle.v_parser.specs.declared.directives.ScaleFactor.TheVariants.{One, Ten, Hundred}
 use Rattle.v_parser.specs.declared.directives.TimeUnit.{TimeUnit}
 use Rattle.v_parser.specs.declared.directives.TimeUnit.TheVariants as units
-use Rattle.v_parser.specs.Words.{named}
 use Rattle.v_parser.specs.Directives.{sees_directive, cell_of, cell_table, cell_in, factor_of, factor_in, unit_of, unit_table, unit_in, power_of, scale_of, implicit_of, implicit_table, none_of, default_in}
 use Rattle.v_parser.specs.Directives as read
 use Rattle.v_parser.proofs.Rules.{Rule, anything, begins, token_rule, bare_rule, map_rule, variant_rule, refit_rule, pair_rule, choice_rule}

@@ -1,5 +1,5 @@
 -- Rules of drives, charges and delays.
-use Rattle.std.proofs.Common.{◌≡◌, ℕ, ◌<◌, true, not, List, [], ◌∷◌, ◌++◌, length, Option, Some, None, is_some, ◌⊎◌, inl, inr, refl, sym, ap, subst, ◌∙◌, arith}
+use Rattle.std.proofs.Common.{◌≡◌, ◌<◌, true, not, List, [], ◌∷◌, ◌++◌, length, Option, Some, None, is_some, ◌⊎◌, inl, inr, refl, sym, ap, subst, ◌∙◌, arith}
 use Rattle.v_tree.specs.declared.locations.Location.{Location}
 use Rattle.v_tree.specs.declared.drives.Level.{Level}
 use Rattle.v_tree.specs.declared.drives.DriveStrength.{DriveStrength}

@@ -1,16 +1,15 @@
 -- Descriptions that are written one behind the other are in the order of their first tokens.
-use Rattle.std.proofs.Common.{◌≡◌, ◌≢◌, ℕ, suc, ◌+◌, ◌<◌, ◌≤◌, Bool, true, false, ltb, if◌then◌else◌, List, [], ◌∷◌, ◌++◌, length, map, refl, sym, ap, subst, ◌∙◌, arith, inl, inr, append_assoc, length-append}
+use Rattle.std.proofs.Common.{◌≡◌, ◌≢◌, ℕ, suc, ◌+◌, ◌<◌, ◌≤◌, Bool, true, false, ltb, List, [], ◌∷◌, ◌++◌, length, map, refl, sym, ap, subst, ◌∙◌, arith, inl, inr, append_assoc}
 use Rattle.std.specs.List.{AllByRecursion}
 use Rattle.std.proofs.lemmas.Bool.{cases_Bool, ltb-true, ltb-false}
 use Rattle.v_lexer.specs.declared.token.Token.{Token}
 use Rattle.v_tree.specs.declared.modules.Module.{Module}
 use Rattle.v_tree.specs.declared.modules.Description.{Description}
 use Rattle.v_tree.specs.declared.modules.Description.TheVariants as described
-use Rattle.v_tree.specs.declared.primitives.UdpDecl.{UdpDecl}
 use Rattle.v_tree.specs.declared.directives.Directive.{Directive}
 use Rattle.v_tree.specs.declared.directives.Directive.TheVariants as directives
-use Rattle.v_tree.specs.Written.{Spelled, AreWritten, exactly, one_by_one}
-use Rattle.v_tree.specs.Spelling.{description, spelling}
+use Rattle.v_tree.specs.Written.{Spelled, AreWritten, one_by_one}
+use Rattle.v_tree.specs.Spelling.{description}
 use Rattle.v_tree.specs.Tree.{modules_among, udps_among, directives_among, token_of, insert, in_order, all_descriptions}
 
 -- each begins behind the first token of the one before, the first at a number or later

@@ -1,5 +1,5 @@
 -- One turn of the loop that passes over a block.
-use Rattle.std.proofs.Common.{◌≡◌, ℕ, suc, ◌+◌, ◌-◌, ◌<◌, Bool, true, false, if◌then◌else◌, List, length, Ok, refl, sym, ap, ◌∙◌, arith}
+use Rattle.std.proofs.Common.{◌≡◌, ℕ, suc, ◌+◌, ◌-◌, ◌<◌, true, false, Ok, refl, sym, ap, ◌∙◌, arith}
 use Rattle.v_parser.specs.Input.{Input, Outcome, front, next}
 use Rattle.v_parser.specs.Blocks.{ends_block, passed_from}
 use Rattle.v_parser.proofs.Turns.{left_over}

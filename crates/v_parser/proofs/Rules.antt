@@ -4,7 +4,7 @@ use Rattle.std.specs.List.{AllByRecursion}
 use Rattle.std.proofs.lemmas.Bool.{and_parts, not-true, eqb-true}
 use Rattle.v_lexer.specs.declared.token.Token.{Token}
 use Rattle.v_tree.specs.declared.locations.Location.{Location}
-use Rattle.v_tree.specs.Written.{Form, form_of, Written, at, bare, placed_first, IsKept, AreWritten, written_if_there, behind_commas, between_commas, one_by_one}
+use Rattle.v_tree.specs.Written.{Form, form_of, Written, at, bare, placed_first, IsKept, written_if_there, behind_commas, between_commas, one_by_one}
 use Rattle.v_tree.specs.Written as form
 use Rattle.v_tree.specs.Fit.{IsSoundForm, AreFit, AreSome, IsFitIfThere}
 use Rattle.v_parser.specs.Input.{Input, Outcome, Reader, front_in, front, location, next_in, next, and_then, ◌>>=◌, pure, ◌<$>◌, ◌&◌, token_by, token, is_mark, optional, choice, commas_from, commas, separated, many_from, many_after, many, some, here}

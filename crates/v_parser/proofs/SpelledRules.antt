@@ -1,14 +1,12 @@
 -- What is read is spelled so, and what is spelled so is read: rules as those of parts that are written token by token, for parts in which tokens may be passed over.
-use Rattle.std.proofs.Common.{◌≡◌, ◌≢◌, ℕ, zero, suc, ◌+◌, ◌<◌, ◌≤◌, ◌^◌, Bool, true, false, not, if◌then◌else◌, List, [], ◌∷◌, ◌++◌, length, Ok, ◌⊎◌, refl, sym, ap, subst, ◌∙◌, arith, inl, inr, append_assoc, append-nil, length-append}
+use Rattle.std.proofs.Common.{◌≡◌, ℕ, zero, suc, ◌+◌, ◌<◌, ◌≤◌, ◌^◌, Bool, true, false, not, if◌then◌else◌, List, [], ◌∷◌, ◌++◌, length, Ok, ◌⊎◌, refl, sym, ap, subst, ◌∙◌, arith, inl, inr, append_assoc, append-nil, length-append}
 use Rattle.std.specs.List.{AllByRecursion}
 use Rattle.std.proofs.lemmas.Bool.{not-true}
 use Rattle.v_lexer.specs.declared.token.Token.{Token}
-use Rattle.v_tree.specs.declared.locations.Location.{Location}
 use Rattle.v_tree.specs.Written.{Form, Written, Spelled, Exactly, Inside, IsInside, bare, exactly, AreWritten, one_by_one}
-use Rattle.v_tree.specs.Written as form
 use Rattle.v_tree.specs.Fit.{AreFit}
 use Rattle.v_parser.specs.Input.{Input, Reader, front, location, next, ◌>>=◌, pure, ◌<$>◌, ◌&◌, choice, many_from, many_after, many}
-use Rattle.v_parser.proofs.Rules.{Rule, Follow, anything, StandsAt, Takes, IsSource, IsEnd, first_form, next_shorter, next_source, takes_join, bind_ok, bind_step, ok_of, ok_is, whole}
+use Rattle.v_parser.proofs.Rules.{Rule, Follow, anything, StandsAt, Takes, IsSource, IsEnd, first_form, next_shorter, next_source, takes_join, bind_ok, bind_step, ok_of, ok_is}
 
 -- the next token is spelled so
 abbrev pub MeetsAt : Input → Spelled → Type 0

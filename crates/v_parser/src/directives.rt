@@ -1,6 +1,6 @@
 //! Directives.
 
-ghost use Rattle.std.specs.Prelude.{◌≡◌, codes};
+ghost use Rattle.std.specs.Prelude.{◌≡◌};
 ghost use Rattle.v_parser.specs.Input as input;
 ghost use Rattle.v_parser.specs.Input.{Reads};
 ghost use Rattle.v_parser.specs.Directives as spec;

@@ -1,4 +1,4 @@
-use Rattle.std.proofs.Common.{rules, arith, length, ◌≡◌, ◌<◌, ◌+◌, ◌-◌, false, true}
+use Rattle.std.proofs.Common.{rules, arith, length, ◌≡◌, ◌<◌, ◌-◌, false, true}
 use Rattle.v_parser.specs.Input.{front}
 use Rattle.v_parser.specs.Blocks.{ends_block, passed}
 use Rattle.v_parser.proofs.Passing.{passed_step}
