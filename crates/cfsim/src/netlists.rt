@@ -38,8 +38,14 @@ fn stop_of_parser(text: &[u8], tokens: &[Token], fault: ParseFault) -> Stop
     ensures { result ≡ stop_of_parser tokens.now fault }
 {
     match fault {
-        ParseFault::Syntax(n) => Stop::Faulty(LineFault::SyntaxError, u64::from(tokens[n as usize].line)),
-        ParseFault::Unsupported(n) => Stop::Faulty(LineFault::Unsupported, u64::from(tokens[n as usize].line)),
+        ParseFault::Syntax(n) => {
+            let line = u64::from(tokens[n as usize].line);
+            Stop::Faulty(LineFault::SyntaxError, line)
+        }
+        ParseFault::Unsupported(n) => {
+            let line = u64::from(tokens[n as usize].line);
+            Stop::Faulty(LineFault::Unsupported, line)
+        }
         ParseFault::Memory => Stop::Memory,
     }
 }

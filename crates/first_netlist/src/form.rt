@@ -291,7 +291,7 @@ pub fn declarations_in(
 }
 
 /// The netlist of a file of the first form: one module of nand gates without delay, and neither a
-/// primitive nor a directive.
+/// primitive nor a directive, without cells and specify blocks.
 /// Its header has names alone, and each is declared once as an input or an output, without a type and
 /// a range. Its other nets are wires without a drive, a range, a delay and a value. Each gate has an
 /// output and one input at least, and each terminal is a whole net that is declared. No net has two

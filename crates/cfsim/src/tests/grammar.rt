@@ -172,7 +172,10 @@ fn declarations_outside_the_grammar(rt: HostRuntime) -> Result<(), Fail> {
             "6: syntax error",
         ),
         ("module m;\nendspecify\nendmodule\n", "2: unsupported"),
-        ("module m;\nbuf #(1:0.5)\n(y, a);\nendmodule\n", "2: syntax error"),
+        (
+            "module m;\nbuf #(1:0.5)\n(y, a);\nendmodule\n",
+            "2: syntax error",
+        ),
         ("module m;\nwire [0.5:0] a;\nendmodule\n", "2: unsupported"),
     ];
     assert_refused(&rt, rt.alloc(), rows.as_slice())
