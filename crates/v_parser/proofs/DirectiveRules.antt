@@ -6,7 +6,7 @@ use Rattle.std.specs.Str.{bytes_eq}
 use Rattle.std.proofs.lemmas.Bool.{eqb-true}
 use Rattle.std.proofs.lemmas.Slice.Eq.{bytes_eq-Decides}
 use Rattle.v_tree.specs.declared.locations.Location.{Location}
-use Rattle.v_tree.specs.declared.directives.Cell.{Cell}
+use Rattle.v_tree.specs.declared.directives.CellDirective.{CellDirective}
 use Rattle.v_tree.specs.declared.directives.CellWord.{CellWord}
 use Rattle.v_tree.specs.declared.directives.CellWord.TheVariants as cells
 use Rattle.v_tree.specs.declared.directives.Timescale.{Timescale}
@@ -47,7 +47,7 @@ cell_is : (f : Form) (x : CellWord) → cell_in f ≡ Some x → f ≡ form.Dire
 cell_is (form.Directive d) x e = ap form.Directive (cell_named d x e)
 cell_is f x e = absurd cc
 
-abbrev cell_parts : Cell → CellWord × Location
+abbrev cell_parts : CellDirective → CellWord × Location
 cell_parts c = (c.word, c.location)
 
 -- `` `celldefine `` or `` `endcelldefine ``
@@ -325,7 +325,7 @@ abbrev IsReset : Directive → Type 0
 IsReset x = (l : Location) × (x ≡ directives.Resetall l) × Unit {0}
 
 abbrev IsCell : Directive → Type 0
-IsCell x = (c : Cell) × (x ≡ directives.Cell c) × Unit {0}
+IsCell x = (c : CellDirective) × (x ≡ directives.Cell c) × Unit {0}
 
 -- another word than those of cells begins no cell
 cell_other : (word : CellWord) → (bytes_eq (words.cell_word word) (codes "`resetall") ≡ false) × (bytes_eq (words.cell_word word) (codes "`default_nettype") ≡ false) × (bytes_eq (words.cell_word word) (codes "`timescale") ≡ false)

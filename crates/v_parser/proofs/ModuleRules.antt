@@ -20,7 +20,7 @@ use Rattle.v_tree.specs.declared.modules.AnsiEntry.{AnsiEntry}
 use Rattle.v_tree.specs.declared.modules.AnsiEntry.TheVariants as entry
 use Rattle.v_tree.specs.declared.modules.Ports.{Ports}
 use Rattle.v_tree.specs.declared.modules.Ports.TheVariants as ports
-use Rattle.v_tree.specs.declared.directives.Cell.{Cell}
+use Rattle.v_tree.specs.declared.directives.CellDirective.{CellDirective}
 use Rattle.v_tree.specs.declared.modules.SpecifyBlock.{SpecifyBlock}
 use Rattle.v_tree.specs.declared.modules.Item.{Item}
 use Rattle.v_tree.specs.declared.modules.Item.TheVariants as item
@@ -179,7 +179,7 @@ unfolding read.blocks
 blocks_rule = item_choice 10 (omega arith) (kind_rule 10 specify_block_rule item.Specify (λ a. refl) (λ a f. (f, refl)) block_from) instances_rule
 
 -- an item with the number of cells is a cell
-cell_from : (x : Item) → IsItem 9 x → (c : Cell) × (x ≡ item.Cell c) × fit.IsFree c
+cell_from : (x : Item) → IsItem 9 x → (c : CellDirective) × (x ≡ item.Cell c) × fit.IsFree c
 cell_from (item.Cell c) f = (c, refl, tt)
 cell_from (item.Gates g) f = absurd (omega (arith, f.1, gate_number_within g.kind))
 cell_from x f = absurd (omega (arith, f.1))

@@ -3,7 +3,7 @@ use Rattle.std.specs.Prelude.{ℕ, ℤ, pos, negsuc, Bool, ◌==◌, if◌then�
 use Rattle.std.specs.Option.{option_map}
 use Rattle.std.specs.Str.{bytes_eq}
 use Rattle.v_tree.specs.declared.locations.Location.{Location}
-use Rattle.v_tree.specs.declared.directives.Cell.{Cell}
+use Rattle.v_tree.specs.declared.directives.CellDirective.{CellDirective}
 use Rattle.v_tree.specs.declared.directives.CellWord.{CellWord}
 use Rattle.v_tree.specs.declared.directives.CellWord.TheVariants as cells
 use Rattle.v_tree.specs.declared.directives.Timescale.{Timescale}
@@ -40,11 +40,11 @@ cell_of bytes = named cell_table bytes
 abbrev pub cell_in : Form → Option CellWord
 cell_in f = chosen cell_of (directive_in f)
 
-abbrev pub cell_with : CellWord × Location → Cell
+abbrev pub cell_with : CellWord × Location → CellDirective
 cell_with z = record { location = z.1; word = z.0 }
 
 -- `` `celldefine `` or `` `endcelldefine ``
-unfoldable pub cell : Reader Cell
+unfoldable pub cell : Reader CellDirective
 cell = cell_with <$> token cell_in
 
 -- ---- scales

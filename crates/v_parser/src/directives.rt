@@ -8,7 +8,7 @@ ghost use Rattle.v_parser.specs.Directives as spec;
 use crate::cursor::{Cursor, is};
 use crate::fault::ParseFault;
 use crate::words::{Meaning, meant_by};
-use v_tree::{Cell, CellWord, DefaultNettype, Directive, ImplicitNetType, Timescale};
+use v_tree::{CellDirective, CellWord, DefaultNettype, Directive, ImplicitNetType, Timescale};
 
 /// The number that a scale begins with.
 #[derive(Clone, Copy)]
@@ -104,14 +104,14 @@ impl Meaning for ImplicitNetType {
 
 /// `` `celldefine `` or `` `endcelldefine ``
 #[tactic(auto, unfolding(crate::specs::Directives::cell))]
-pub fn cell(cursor: &mut Cursor<'_>) -> Result<Cell, ParseFault>
+pub fn cell(cursor: &mut Cursor<'_>) -> Result<CellDirective, ParseFault>
     ensures { Reads (spec.cell cursor.old) result cursor.new }
 {
     match meant_by::<CellWord>(cursor.seen_directive()) {
         Some(word) => {
             let location = cursor.location();
             cursor.advance();
-            Ok(Cell { location, word })
+            Ok(CellDirective { location, word })
         }
         None => Err(cursor.refuse()),
     }

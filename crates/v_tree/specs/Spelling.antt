@@ -22,7 +22,7 @@ use Rattle.v_tree.specs.declared.drives.DelayValue.TheVariants.{One, Three}
 use Rattle.v_tree.specs.declared.drives.Delay.{Delay}
 use Rattle.v_tree.specs.declared.drives.Delay.TheVariants as delays
 use Rattle.v_tree.specs.declared.drives.DelaySpec.{DelaySpec}
-use Rattle.v_tree.specs.declared.directives.Cell.{Cell}
+use Rattle.v_tree.specs.declared.directives.CellDirective.{CellDirective}
 use Rattle.v_tree.specs.declared.directives.Timescale.{Timescale}
 use Rattle.v_tree.specs.declared.directives.ImplicitNetType.{ImplicitNetType}
 use Rattle.v_tree.specs.declared.directives.DefaultNettype.{DefaultNettype}
@@ -256,7 +256,7 @@ abbrev pub placed_directive : Location → List ℕ → Written
 placed_directive location bytes = at location (form.Directive bytes)
 
 -- `` `celldefine `` or `` `endcelldefine ``
-abbrev pub cell : Cell → List Written
+abbrev pub cell : CellDirective → List Written
 cell c = placed_directive c.location (cell_word c.word) ∷ []
 
 -- a number and a unit

@@ -11,7 +11,7 @@ pub enum CellWord {
 /// `` `celldefine `` or `` `endcelldefine `` (IEEE 1364-2005, 19.1). The location is that of the
 /// directive.
 #[derive(Clone, Copy, Debug, PartialEq, Eq)]
-pub struct Cell {
+pub struct CellDirective {
     pub location: Location,
     pub word: CellWord,
 }
@@ -54,7 +54,7 @@ pub enum Directive {
     DefaultNettype(DefaultNettype),
     /// `` `resetall ``, with the location of the directive (IEEE 1364-2005, 19.6).
     Resetall(Location),
-    Cell(Cell),
+    Cell(CellDirective),
 }
 
 /// Directives in their order.

@@ -16,7 +16,7 @@ pub use declarations::{
     ValuedName, ValuedNameList, VectorRange, VectorWord,
 };
 pub use directives::{
-    Cell, CellWord, DefaultNettype, Directive, DirectiveList, ImplicitNetType, Timescale,
+    CellDirective, CellWord, DefaultNettype, Directive, DirectiveList, ImplicitNetType, Timescale,
 };
 pub use drives::{
     Amount, Charge, Delay, DelaySpec, DelayValue, DelayValueList, DriveStrength, Level, PullLevels,

@@ -1,7 +1,7 @@
 ghost use Rattle.v_tree.specs.Fit.{AreFitLists};
 
 use crate::declarations::{AssignItem, Direction, NetDecl, NetType, PortDecl, TriregDecl};
-use crate::directives::{Cell, Directive, DirectiveList};
+use crate::directives::{CellDirective, Directive, DirectiveList};
 use crate::expressions::Range;
 use crate::gates::{GateItem, Instance};
 use crate::locations::{Location, Name, PlacedNameList};
@@ -62,7 +62,7 @@ pub enum Item {
     Assign(AssignItem),
     Gates(GateItem),
     Instances(Instance),
-    Cell(Cell),
+    Cell(CellDirective),
     Specify(SpecifyBlock),
 }
 

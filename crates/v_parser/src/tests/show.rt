@@ -400,7 +400,7 @@ fn show_port_decl(shown: &mut String, decl: &PortDecl) -> Result<(), AllocError>
     show_names(shown, &decl.names)
 }
 
-fn show_cell(shown: &mut String, cell: &Cell) -> Result<(), AllocError> {
+fn show_cell(shown: &mut String, cell: &CellDirective) -> Result<(), AllocError> {
     let token = cell.location.token;
     let word = cell.word;
     write!(shown, "{token}:{word:?}")?;
