@@ -54,7 +54,7 @@ lexical_fault text which line small stops =
 -- a text whose tokens spell modules and primitives gives what these mean
 pub tree : (text : List ℕ) (tokens : List Token) (ds : List Description) → length text ≤ netlist_limit → AreTokensOf text tokens → AreSpelled text tokens ds → netlist_in (Some text) ≡ netlist_among ds
 tree text tokens ds small are spelled =
-    let found = read_only text tokens ds spelled.written spelled.fit in
+    let found = read_only text tokens ds small are spelled.written spelled.fit in
     within text small ∙ lexed text (Ok tokens) (reads_only text tokens are) ∙ read text tokens (Ok (ds, found.0)) found.1
 
 -- the line of a token that is there

@@ -7,6 +7,7 @@ use Rattle.v_lexer.specs.Tokens as lexes
 use Rattle.v_lexer.specs.Tokens.{tokens_of}
 use Rattle.v_tree.specs.declared.modules.Module.{Module}
 use Rattle.v_tree.specs.declared.primitives.UdpDecl.{UdpDecl}
+use Rattle.v_tree.specs.declared.directives.Directive.{Directive}
 use Rattle.v_parser.specs.declared.fault.ParseFault.{ParseFault}
 use Rattle.v_parser.specs.declared.fault.ParseFault.TheVariants as refused
 use Rattle.v_parser.specs.Input.{Input}
@@ -30,6 +31,6 @@ parser_tells text tokens (refused.Unsupported n) are is = lexed text (Ok tokens)
 parser_tells text tokens refused.Memory are is = tt
 
 -- tokens with a tree
-pub tree_is : (text : List ℕ) (tokens : List Token) (modules : List Module) (udps : List UdpDecl) (rest : Input) → tokens_of text ≡ Ok tokens → Sorts (descriptions_of text tokens) modules udps rest
-    → netlist_from text ≡ netlist_meant modules udps
-tree_is text tokens modules udps rest are sorts = lexed text (Ok tokens) are ∙ read text tokens (Ok (sorts.found, rest)) sorts.read ∙ rw (sorts.modules_are, sorts.udps_are) refl
+pub tree_is : (text : List ℕ) (tokens : List Token) (modules : List Module) (udps : List UdpDecl) (directives : List Directive) (rest : Input) → tokens_of text ≡ Ok tokens → Sorts (descriptions_of text tokens) modules udps directives rest
+    → netlist_from text ≡ netlist_meant modules udps directives
+tree_is text tokens modules udps directives rest are sorts = lexed text (Ok tokens) are ∙ read text tokens (Ok (sorts.found, rest)) sorts.read ∙ rw (sorts.modules_are, sorts.udps_are, sorts.directives_are) refl

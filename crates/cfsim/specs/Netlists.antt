@@ -12,9 +12,10 @@ use Rattle.v_lexer.specs.Tokens.{tokens_of}
 use Rattle.v_tree.specs.declared.modules.Module.{Module}
 use Rattle.v_tree.specs.declared.modules.Description.{Description}
 use Rattle.v_tree.specs.declared.primitives.UdpDecl.{UdpDecl}
+use Rattle.v_tree.specs.declared.directives.Directive.{Directive}
 use Rattle.v_tree.specs.Fit.{AreFit, IsFitDescription}
 use Rattle.v_tree.specs.Spelling.{spelling}
-use Rattle.v_tree.specs.Tree.{modules_among, udps_among}
+use Rattle.v_tree.specs.Tree.{modules_among, udps_among, directives_among}
 use Rattle.v_tree.specs.Written.{AreWritten, slice_of}
 use Rattle.v_parser.specs.declared.fault.ParseFault.{ParseFault}
 use Rattle.v_parser.specs.declared.fault.ParseFault.TheVariants as refused
@@ -42,13 +43,13 @@ grammatical tokens (refused.Syntax n) = Faulty SyntaxError (line_of tokens n)
 grammatical tokens (refused.Unsupported n) = Faulty Unsupported (line_of tokens n)
 grammatical tokens refused.Memory = Outside
 
--- the netlist that modules and primitives mean, where it is built
-abbrev pub netlist_meant : List Module → List UdpDecl → Result Netlist Refusal
-netlist_meant modules udps = ok_or (netlist_of modules udps) Outside
+-- the netlist that modules, primitives and directives mean, where it is built
+abbrev pub netlist_meant : List Module → List UdpDecl → List Directive → Result Netlist Refusal
+netlist_meant modules udps directives = ok_or (netlist_of modules udps directives) Outside
 
--- the netlist of the modules and primitives of a text
+-- the netlist of the modules, primitives and directives of a text
 abbrev pub netlist_among : List Description → Result Netlist Refusal
-netlist_among ds = netlist_meant (modules_among ds) (udps_among ds)
+netlist_among ds = netlist_meant (modules_among ds) (udps_among ds) (directives_among ds)
 
 -- the netlist of what was read of tokens
 abbrev pub netlist_read : {Rest : Type 0} → List Token → Result (List Description × Rest) ParseFault → Result Netlist Refusal
@@ -72,7 +73,7 @@ fault_of kind.OpenComment = OpenComment
 fault_of kind.OpenString = OpenString
 fault_of kind.BadNumber = BadNumber
 
--- the tokens of the text are those with which the modules and primitives are written
+-- the tokens of the text are those with which the modules, primitives and directives are written
 pub record AreSpelled (text : List ℕ) (tokens : List Token) (ds : List Description) : Type 0 where
   pub written : AreWritten text 0 tokens (spelling ds)
   pub fit : AreFit IsFitDescription ds

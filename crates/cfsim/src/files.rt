@@ -30,7 +30,7 @@ pub enum Stop {
     /// The file is longer than its limit.
     TooLong,
     /// Something is wrong at a line of the file, counted from 1.
-    Faulty(LineFault, u32),
+    Faulty(LineFault, u64),
     /// The file is outside its form.
     Unbuilt,
 }

@@ -38,8 +38,14 @@ fn stop_of_parser(text: &[u8], tokens: &[Token], fault: ParseFault) -> Stop
     ensures { result ≡ stop_of_parser tokens.now fault }
 {
     match fault {
-        ParseFault::Syntax(n) => Stop::Faulty(LineFault::SyntaxError, tokens[n as usize].line),
-        ParseFault::Unsupported(n) => Stop::Faulty(LineFault::Unsupported, tokens[n as usize].line),
+        ParseFault::Syntax(n) => {
+            let line = u64::from(tokens[n as usize].line);
+            Stop::Faulty(LineFault::SyntaxError, line)
+        }
+        ParseFault::Unsupported(n) => {
+            let line = u64::from(tokens[n as usize].line);
+            Stop::Faulty(LineFault::Unsupported, line)
+        }
         ParseFault::Memory => Stop::Memory,
     }
 }
@@ -57,7 +63,7 @@ fn stop_of_tree(fault: NetlistFault) -> Stop
 /// The tree of a text of at most 64 MiB, whose tokens are dropped.
 fn tree_from_text(alloc: Global, text: &[u8]) -> Result<File, Stop>
     requires { length text.now ≤ netlist_limit }
-    ensures ok { IfOk result (λ file. netlist_from text.now ≡ netlist_meant file.modules file.udps) }
+    ensures ok { IfOk result (λ file. netlist_from text.now ≡ netlist_meant file.modules file.udps file.directives) }
     ensures stopped { IfErr result (λ stop. Tells stop (netlist_from text.now)) }
     ensures text { IfErr result IsOfText }
 {

@@ -49,7 +49,7 @@ fn too_long(alloc: Global, name: &str) -> Result<Bytes, AllocError>
 }
 
 /// A line about a line of a file.
-fn faulty(alloc: Global, name: &str, number: u32, fault: LineFault) -> Result<Bytes, AllocError>
+fn faulty(alloc: Global, name: &str, number: u64, fault: LineFault) -> Result<Bytes, AllocError>
     ensures { IfOk result (λ text. text ≡ fault_line name.now number fault) }
 {
     let mut buffer = Buffer::new();

@@ -91,7 +91,7 @@ pub fn run<R: Threads + Sync, F: Shelf, O: Sink, E: Sink, G: Gate + Sync>(
     // fault is refused at its first one.
     ensures lexical_fault { (text : List ℕ) (wrong : FaultKind) (line : ℕ) → length text ≤ netlist_limit → StopsAt text wrong line
         → netlist_in (Some text) ≡ Err (Faulty (fault_of wrong) line) }
-    // A text whose tokens spell modules and primitives gives what these mean.
+    // A text whose tokens spell modules, primitives and directives gives what these mean.
     ensures tree { (text : List ℕ) (tokens : List Token) (ds : List Description) → length text ≤ netlist_limit → AreTokensOf text tokens → AreSpelled text tokens ds
         → netlist_in (Some text) ≡ netlist_among ds }
     // A text whose tokens spell none is refused at the line of one of them, as unsupported exactly where the grammar

@@ -2,7 +2,7 @@
 use Rattle.std.specs.Prelude.{ℕ, Bool, true, false, ◌&&◌, if◌then◌else◌, List, [], ◌∷◌, map, Option, Some, None, is_none}
 use Rattle.std.specs.Option.{option_map}
 use Rattle.gate_net.specs.declared.netlist.Netlist.{Netlist}
-use Rattle.v_tree.specs.declared.places.Name.{Name}
+use Rattle.v_tree.specs.declared.locations.Name.{Name}
 use Rattle.v_tree.specs.declared.expressions.Pick.{Pick}
 use Rattle.v_tree.specs.declared.expressions.Expr.{Expr, out-Expr}
 use Rattle.v_tree.specs.declared.expressions.Expr.TheOpen.{Expr-F}
@@ -25,6 +25,7 @@ use Rattle.v_tree.specs.declared.modules.Item.{Item as TreeItem}
 use Rattle.v_tree.specs.declared.modules.Item.TheVariants as item
 use Rattle.v_tree.specs.declared.modules.Module.{Module}
 use Rattle.v_tree.specs.declared.primitives.UdpDecl.{UdpDecl}
+use Rattle.v_tree.specs.declared.directives.Directive.{Directive}
 use Rattle.first_netlist.specs.declared.tree.Direction.TheVariants.{Input, Output}
 use Rattle.first_netlist.specs.declared.tree.Instance.{Instance}
 use Rattle.first_netlist.specs.declared.tree.Item.{Item}
@@ -95,7 +96,7 @@ is_wire other = false
 
 -- wires, without a drive, a range and a delay
 unfoldable pub wires_in : NetDecl → Option Item
-wires_in decl = if is_wire decl.net_type && is_none decl.drive && is_none decl.spread && is_none decl.delay then wires_among decl.declared else None
+wires_in decl = if is_wire decl.net_type && is_none decl.drive && is_none decl.vector_range && is_none decl.delay then wires_among decl.declared else None
 
 -- `nand`, without a drive and a delay
 unfoldable pub is_nand : GateKind → Bool
@@ -126,11 +127,11 @@ module_declarations m = do
   items ← each item_of m.items
   Some (declarations_of (record { header = header; items = items }))
 
--- what the one module declares, where there is no primitive
-unfoldable pub declarations_in : List Module → List UdpDecl → Option Declarations
-declarations_in (m ∷ []) [] = module_declarations m
-declarations_in modules udps = None
+-- what the one module declares, where there is neither a primitive nor a directive
+unfoldable pub declarations_in : List Module → List UdpDecl → List Directive → Option Declarations
+declarations_in (m ∷ []) [] [] = module_declarations m
+declarations_in modules udps directives = None
 
 -- the netlist that a file means, where it has the form and keeps its rules
-unfoldable pub netlist_of : List Module → List UdpDecl → Option Netlist
-netlist_of modules udps = declarations_in modules udps >>= meaning
+unfoldable pub netlist_of : List Module → List UdpDecl → List Directive → Option Netlist
+netlist_of modules udps directives = declarations_in modules udps directives >>= meaning

@@ -16,8 +16,8 @@ use gate_net::Netlist;
 use std::alloc::Global;
 use v_lexer::ReservedWords;
 use v_tree::{
-    Declared, Expr, File, GateItem, GateKind, LogicGate, Name, NetDecl, NetType, Pick, PortDecl,
-    Ports, Terms, UdpDecl,
+    Declared, Directive, Expr, File, GateItem, GateKind, LogicGate, Name, NetDecl, NetType, Pick,
+    PortDecl, Ports, Terms, UdpDecl,
 };
 
 /// The ports that a header names, where it doesn't declare them.
@@ -187,7 +187,7 @@ fn wires_in(alloc: Global, words: &ReservedWords, decl: &NetDecl) -> Result<Item
 {
     if is_wire(decl.net_type)
         && decl.drive.is_none()
-        && decl.spread.is_none()
+        && decl.vector_range.is_none()
         && decl.delay.is_none()
     {
         wires_among(alloc, words, &decl.declared)
@@ -273,23 +273,25 @@ fn module_declarations(
     items_of(alloc, words, declared, module.items.as_slice())
 }
 
-/// What the one module declares, where there is no primitive.
+/// What the one module declares, where there is neither a primitive nor a directive.
 #[tactic(auto, unfolding(crate::specs::Form::declarations_in))]
 pub fn declarations_in(
     alloc: Global,
     words: &ReservedWords,
     modules: &[v_tree::Module],
     udps: &[UdpDecl],
+    directives: &[Directive],
 ) -> Result<Module, NetlistFault>
-    ensures { Gives declared result (declarations_in modules.now udps.now) }
+    ensures { Gives declared result (declarations_in modules.now udps.now directives.now) }
 {
-    match (modules, udps) {
-        ([module], []) => module_declarations(alloc, words, module),
+    match (modules, udps, directives) {
+        ([module], [], []) => module_declarations(alloc, words, module),
         _ => Err(NetlistFault::Unbuilt),
     }
 }
 
-/// The netlist of a file of the first form: one module of nand gates without delay, and no primitive.
+/// The netlist of a file of the first form: one module of nand gates without delay, and neither a
+/// primitive nor a directive, without cells and specify blocks.
 /// Its header has names alone, and each is declared once as an input or an output, without a type and
 /// a range. Its other nets are wires without a drive, a range, a delay and a value. Each gate has an
 /// output and one input at least, and each terminal is a whole net that is declared. No net has two
@@ -304,12 +306,18 @@ pub fn declarations_in(
 /// `Unbuilt` comes exactly where the file is outside the form, unless memory runs out first.
 #[tactic(auto, unfolding(crate::specs::Form::netlist_of))]
 pub fn netlist_of(alloc: Global, file: File) -> Result<Netlist, NetlistFault>
-    ensures exact { Gives (λ netlist. netlist) result (netlist_of file.modules file.udps) }
+    ensures exact { Gives (λ netlist. netlist) result (netlist_of file.modules file.udps file.directives) }
     ensures sound { IfOk result IsSound }
     ensures distinct { IfOk result (λ netlist. IsTrue (is_distinct netlist.names)) }
 {
     let words = ReservedWords::new(alloc)?;
-    let module = declarations_in(alloc, &words, file.modules.as_slice(), file.udps.as_slice())?;
+    let module = declarations_in(
+        alloc,
+        &words,
+        file.modules.as_slice(),
+        file.udps.as_slice(),
+        file.directives.as_slice(),
+    )?;
     drop(file);
     meaning(alloc, &module)
 }

@@ -8,15 +8,18 @@ use std::alloc::{AllocError, Global};
 use std::test::Fail;
 use v_lexer::ReservedWords;
 use v_tree::{
-    Direction, Expr, GateItem, GateKind, Item, LogicGate, Module, ModuleWord, Name, Pick, Place,
+    Direction, Expr, GateItem, GateKind, Item, Location, LogicGate, Module, ModuleWord, Name, Pick,
     PlacedNameList, PortDecl, Ports, Terms,
 };
 
-const PLACE: Place = Place { line: 1, token: 0 };
+const LOCATION: Location = Location { line: 1, token: 0 };
 
 fn name_of(alloc: Global, text: &str) -> Result<Name, AllocError> {
     let text = Bytes::from_vec(text.as_bytes().to_vec(alloc)?);
-    Ok(Name { place: PLACE, text })
+    Ok(Name {
+        location: LOCATION,
+        text,
+    })
 }
 
 fn names_of(alloc: Global, texts: &[&str]) -> Result<PlacedNameList, AllocError> {
@@ -29,7 +32,7 @@ fn names_of(alloc: Global, texts: &[&str]) -> Result<PlacedNameList, AllocError>
 
 fn ports_of(alloc: Global, direction: Direction, texts: &[&str]) -> Result<Item, AllocError> {
     Ok(Item::Ports(PortDecl {
-        place: PLACE,
+        location: LOCATION,
         direction,
         net_type: None,
         range: None,
@@ -47,11 +50,11 @@ fn nand_of(alloc: Global, texts: &[&str]) -> Result<Item, AllocError> {
     let mut gates = Items::new(alloc);
     gates.push(Terms {
         name: None,
-        paren: PLACE,
+        paren: LOCATION,
         terminals,
     })?;
     Ok(Item::Gates(GateItem {
-        place: PLACE,
+        location: LOCATION,
         kind: GateKind::Logic(LogicGate::Nand, None, None),
         gates,
     }))
@@ -66,7 +69,7 @@ fn latch(alloc: Global) -> Result<Module, AllocError> {
     items.push(nand_of(alloc, &["q", "s", "qn"])?)?;
     items.push(nand_of(alloc, &["qn", "r+", "q"])?)?;
     Ok(Module {
-        place: PLACE,
+        location: LOCATION,
         word: ModuleWord::Module,
         name: name_of(alloc, "latch")?,
         ports: Ports::Names(names_of(alloc, &["q", "qn", "s", "r+"])?),
@@ -80,7 +83,7 @@ fn latch(alloc: Global) -> Result<Module, AllocError> {
 fn the_latch(rt: HostRuntime) -> Result<(), Fail> {
     let module = latch(rt.alloc())?;
     let words = ReservedWords::new(rt.alloc())?;
-    let declared = declarations_in(rt.alloc(), &words, &[module], &[])?;
+    let declared = declarations_in(rt.alloc(), &words, &[module], &[], &[])?;
     let netlist = meaning(rt.alloc(), &declared)?;
     let mut names = Vec::new(rt.alloc());
     for name in netlist.names.as_slice() {

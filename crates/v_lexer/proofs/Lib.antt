@@ -12,5 +12,6 @@ pub mod Within
 pub mod Found
 pub mod Meanings
 pub mod Shapes
+pub mod Decimals
 pub mod Sound
 pub mod Reach

@@ -22,7 +22,7 @@ use Rattle.v_lexer.specs.Bytes.{first, begins, is_letter, is_name_byte, is_numbe
 use Rattle.v_lexer.specs.Quoted.{text_len}
 use Rattle.v_lexer.specs.Gaps.{comment_len, attribute_len}
 use Rattle.v_lexer.specs.Numbers.{decimal_value, decimal_len, exponent_len}
-use Rattle.v_lexer.specs.Literals.{Form, form_at, holds, size_holds, digits_hold, value_holds, filler, fit, binary, bits_of, bits_in, is_single, bit_at}
+use Rattle.v_lexer.specs.Literals.{extension_of, Form, form_at, holds, size_holds, digits_hold, value_holds, filler, fit, binary, bits_of, bits_in, is_single, bit_at}
 use Rattle.v_lexer.specs.Words.{is_reserved, reserved, grammar_words, words_of}
 use Rattle.v_lexer.specs.Places.{Found, ended, mark_at, slash_at, open_at, quote_at, escaped_at, directive_at, name_at, literal_with, literal_at, exponent_at, quote_place, whole_at, number_at, plain_at, is_symbol, is_table_end, row_at, place_at}
 use Rattle.v_lexer.specs.Values.{name_text, width_of, meaning, literal_of}
@@ -201,7 +201,7 @@ holds_some size form h =
 
 -- what a based number without faults means
 literal_in : Option ℕ → Form → Literal
-literal_in size form = record { size = size; signed = form.signed; base = form.base; bits = bits_in (width_of size) form.base form.digits }
+literal_in size form = record { size = size; signed = form.signed; base = form.base; bits = bits_in (width_of size) form.base form.digits; extension = extension_of form.digits }
 
 meaning-some : (size : Option ℕ) (form : Form) → holds size form ≡ true → meaning size (Some form) ≡ Some (literal_in size form)
 unfolding meaning literal_in

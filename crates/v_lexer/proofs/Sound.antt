@@ -11,6 +11,7 @@ use Rattle.v_lexer.specs.Tokens.{end_at, given}
 use Rattle.v_lexer.specs.Reading.{line_of, Stands, Reads, AreTokensOf}
 use Rattle.v_lexer.specs.Sound.{IsSound, AreSound}
 use Rattle.v_lexer.proofs.Meanings.{Meant, Says, place_says}
+use Rattle.v_lexer.proofs.Decimals.{has_digits}
 use Rattle.v_lexer.specs.Forms.{IsFormOf}
 use Rattle.v_lexer.proofs.Shapes.{Shaped, Takes, place_takes}
 
@@ -45,6 +46,7 @@ token_sound text at len shape form meant some within =
       name = λ e. as_kind kind.Name e;
       word = λ e. as_kind kind.Word e;
       number = λ e. as_kind kind.Number e;
+      decimal = λ e. has_digits bytes (subst (λ (k : TokenKind). IsFormOf k bytes) e (subst (λ n. IsFormOf shape (take n (drop at text))) same form));
       based = λ e. as_kind kind.Based e;
       symbol = λ e. (ap (λ n. at + n) (as_kind kind.Symbol e).0, (as_kind kind.Symbol e).1);
       mark = λ e. (ap (λ n. at + n) (as_kind kind.Mark e).0, (as_kind kind.Mark e).1);
@@ -61,6 +63,7 @@ end_sound text at is = record {
   name = λ e. absurd (other_kind kind.Name tt e);
   word = λ e. absurd (other_kind kind.Word tt e);
   number = λ e. absurd (other_kind kind.Number tt e);
+  decimal = λ e. absurd (other_kind kind.Decimal tt e);
   based = λ e. absurd (other_kind kind.Based tt e);
   symbol = λ e. absurd (other_kind kind.Symbol tt e);
   mark = λ e. absurd (other_kind kind.Mark tt e);

@@ -76,6 +76,10 @@ radix Octal = 8
 radix Decimal = 10
 radix Hexadecimal = 16
 
+-- the bit that extends digits on the left: x or z where the leftmost digit is one, else 0
+unfoldable pub extension_of : List ℕ → Bit
+extension_of digits = if is_x (first digits) then X else if is_z (first digits) then Z else Zero
+
 -- a digit of the base, an x, a z, a `?` or `_`
 unfoldable pub is_digit_of : Base → ℕ → Bool
 is_digit_of base byte = byte == 95 || is_x byte || is_z byte || nat_lt (digit_value byte) (radix base)

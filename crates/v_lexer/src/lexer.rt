@@ -20,10 +20,10 @@ fn fault_at(kind: FaultKind, line: u32) -> LexFault
     ensures { result ≡ fault_at kind line }
 {
     match kind {
-        FaultKind::BadByte => LexFault::BadByte(line),
-        FaultKind::OpenComment => LexFault::OpenComment(line),
-        FaultKind::OpenString => LexFault::OpenString(line),
-        FaultKind::BadNumber => LexFault::BadNumber(line),
+        FaultKind::BadByte => LexFault::BadByte(u64::from(line)),
+        FaultKind::OpenComment => LexFault::OpenComment(u64::from(line)),
+        FaultKind::OpenString => LexFault::OpenString(u64::from(line)),
+        FaultKind::BadNumber => LexFault::BadNumber(u64::from(line)),
     }
 }
 

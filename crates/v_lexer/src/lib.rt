@@ -21,5 +21,7 @@ pub use lexer::tokens;
 pub use lists::{BitList, TokenList};
 pub use literals::{Base, Bit};
 pub use token::{Token, TokenKind};
-pub use values::{Literal, is_literal, literal_value, name_text, number_value};
+pub use values::{
+    DecimalDigits, Literal, decimal_digits, is_literal, literal_value, name_text, number_value,
+};
 pub use words::{ReservedWords, is_left_out_word};

@@ -1,7 +1,7 @@
 ghost use Rattle.std.specs.Prelude.{◌≡◌, ◌≤◌, ◌<◌, ◌+◌, ◌^◌, ◌==◌, nat_le, length, IfSome};
 ghost use Rattle.std.specs.Option.{option_map};
 ghost use Rattle.std.specs.List.{list_all};
-ghost use Rattle.v_lexer.specs.Literals.{base_of, signed_len, form_view, form_with, form_at, is_x, is_z, digit_value, is_digit_of, is_decimal_digit, is_single, digits_hold, radix, bit_at, size_holds, holds, value_holds, weighed, digit_bits, bits_of, needed};
+ghost use Rattle.v_lexer.specs.Literals.{base_of, signed_len, form_view, form_with, form_at, is_x, is_z, extension_of, digit_value, is_digit_of, is_decimal_digit, is_single, digits_hold, radix, bit_at, size_holds, holds, value_holds, weighed, digit_bits, bits_of, needed};
 ghost use Rattle.v_lexer.specs.declared.literals.Base.TheVariants.{Hexadecimal};
 ghost use Rattle.v_lexer.specs.Numbers.{decimal_value};
 ghost use Rattle.v_lexer.specs.Needed.{needed_by, needed_with};
@@ -117,6 +117,20 @@ fn is_z(byte: u8) -> bool
     ensures { result ≡ is_z byte }
 {
     byte == b'z' || byte == b'Z' || byte == b'?'
+}
+
+/// The bit that extends digits on the left: x or z where the leftmost digit is one, else 0.
+#[tactic(auto, unfolding(crate::specs::Literals::extension_of))]
+pub fn extension_of(digits: &[u8]) -> Bit
+    ensures { result ≡ extension_of digits.now }
+{
+    if is_x(first(digits)) {
+        Bit::X
+    } else if is_z(first(digits)) {
+        Bit::Z
+    } else {
+        Bit::Zero
+    }
 }
 
 /// The value of a digit or a letter, or 16.

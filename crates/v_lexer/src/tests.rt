@@ -214,11 +214,16 @@ const LITERALS: &str = r##"4'b1 => 4 b 0001
 8'd255 => 8 d 11111111
 1'h0 => 1 h 0
 33'h1ffffffff => 33 h 111111111111111111111111111111111
-'b1 => - b 00000000000000000000000000000001
-'dz => - d zzzzzzzzzzzzzzzzzzzzzzzzzzzzzzzz
-'d2863311530 => - d 10101010101010101010101010101010
-'hdead_BEEF => - h 11011110101011011011111011101111
-'sh8x => - sh 0000000000000000000000001000xxxx
+'b1 => -0 b 00000000000000000000000000000001
+'dz => -z d zzzzzzzzzzzzzzzzzzzzzzzzzzzzzzzz
+'d2863311530 => -0 d 10101010101010101010101010101010
+'hdead_BEEF => -0 h 11011110101011011011111011101111
+'sh8x => -0 sh 0000000000000000000000001000xxxx
+'hxxxxxxxx => -x h xxxxxxxxxxxxxxxxxxxxxxxxxxxxxxxx
+'h0xxxxxxxx => -0 h xxxxxxxxxxxxxxxxxxxxxxxxxxxxxxxx
+'O?0 => -z o zzzzzzzzzzzzzzzzzzzzzzzzzzzzz000
+'bZ_1 => -z b zzzzzzzzzzzzzzzzzzzzzzzzzzzzzzz1
+'d0 => -0 d 00000000000000000000000000000000
 128'd340282366920938463463374607431768211455 => 128 d 11111111111111111111111111111111111111111111111111111111111111111111111111111111111111111111111111111111111111111111111111111111
 128'h1 => 128 h 00000000000000000000000000000000000000000000000000000000000000000000000000000000000000000000000000000000000000000000000000000001
 128'oz => 128 o zzzzzzzzzzzzzzzzzzzzzzzzzzzzzzzzzzzzzzzzzzzzzzzzzzzzzzzzzzzzzzzzzzzzzzzzzzzzzzzzzzzzzzzzzzzzzzzzzzzzzzzzzzzzzzzzzzzzzzzzzzzzzzzz
@@ -341,7 +346,11 @@ fn meaning(alloc: Global, row: &str) -> Result<String, AllocError> {
         Some(literal) => {
             match literal.size {
                 Some(size) => write!(shown, "{size} ")?,
-                None => shown.push_str("- ")?,
+                None => {
+                    shown.push('-')?;
+                    shown.push(bit_letter(literal.extension))?;
+                    shown.push(' ')?;
+                }
             }
             if literal.signed {
                 shown.push('s')?;
@@ -385,6 +394,50 @@ fn names_and_numbers_mean_their_bytes_and_values(rt: HostRuntime) -> Result<(), 
     assert_eq!(rt; number_value(b"1_0"), Some(10));
     assert_eq!(rt; number_value(b"2147483647"), Some(2147483647));
     assert_eq!(rt; number_value(b"2147483648"), None);
+    Ok(())
+}
+
+#[test]
+fn decimals_mean_their_digits(rt: HostRuntime) -> Result<(), Fail> {
+    let decimal = decimal_digits(rt.alloc(), b"90.0125")?;
+    assert_eq!(rt; decimal.whole.as_slice(), [9, 0].as_slice());
+    assert_eq!(rt; decimal.fraction.as_slice(), [0, 1, 2, 5].as_slice());
+    Ok(())
+}
+
+/// A text of 1.6 MB, with three tokens a line.
+#[test]
+fn a_large_text_has_all_its_tokens(rt: HostRuntime) -> Result<(), Fail> {
+    let mut text = Vec::new(rt.alloc());
+    for _ in 0..200000 {
+        text.extend_from_slice(b"wire a;\n")?;
+    }
+    if text.len() <= 67108864 {
+        let list = tokens(rt.alloc(), &text).map_err(|_| "no tokens")?;
+        assert_eq!(rt; list.as_slice().len(), 600001);
+        for (i, token) in list.as_slice().iter().enumerate() {
+            let (kind, start, end) = match i % 3 {
+                0 => (TokenKind::Word, 0, 4),
+                1 => (TokenKind::Name, 5, 6),
+                _ => (TokenKind::Mark, 6, 7),
+            };
+            let line = i / 3;
+            if line < 200000 {
+                assert_eq!(rt; token.kind, kind, "at {i}");
+                assert_eq!(rt;
+                    token.start as usize,
+                    (8 * line).saturating_add(start),
+                    "at {i}"
+                );
+                assert_eq!(rt;
+                    token.end as usize,
+                    (8 * line).saturating_add(end),
+                    "at {i}"
+                );
+                assert_eq!(rt; token.line as usize, line + 1, "at {i}");
+            }
+        }
+    }
     Ok(())
 }
 

@@ -3,22 +3,33 @@ ghost use Rattle.v_lexer.specs.declared.literals.Base.TheVariants.{Octal, Decima
 ghost use Rattle.v_lexer.specs.declared.literals.Bit.TheVariants.{Zero, One};
 ghost use Rattle.v_lexer.specs.Numbers.{decimal_value};
 ghost use Rattle.v_lexer.specs.Literals.{form_at, is_single, weighed, digit_bits, bits_of, filler, fit, binary, bits_in, holds, form_view};
-ghost use Rattle.v_lexer.specs.Values.{name_text, width_of, meaning, literal_of};
+ghost use Rattle.v_lexer.specs.Values.{name_text, digits_in, decimal_digits, width_of, meaning, literal_of};
 
-use crate::bytes::{after, before, blank_run, first, number_run};
+use crate::bytes::{after, before, blank_run, digit_run, first, number_run};
 use crate::lists::BitList;
-use crate::literals::{Base, Bit, Form, bit_at, form_at, holds, is_single};
+use crate::literals::{Base, Bit, Form, bit_at, extension_of, form_at, holds, is_single};
 use crate::numbers::{decimal_value, small_value};
+use byte_lists::Bytes;
 use std::alloc::{AllocError, Global};
 
-/// What a based number means: its size where one is written, whether it is signed, its base, and
-/// its bits from the left, as many as the size or 32.
+/// What a based number means: its size where one is written, whether it is signed, its base, its bits
+/// from the left, as many as the size or 32, and the bit that extends it on the left where it has no
+/// size and its place is wider: x or z where its leftmost digit is one, else 0 (IEEE 1364-2005, 3.5.1).
 #[derive(Debug, Drop)]
 pub struct Literal {
     pub size: Option<u32>,
     pub signed: bool,
     pub base: Base,
     pub bits: BitList,
+    pub extension: Bit,
+}
+
+/// What a decimal means: its digits before and behind the `.`, each as a number from 0 to 9, the most
+/// significant first. There may be any number of them.
+#[derive(Debug, Drop)]
+pub struct DecimalDigits {
+    pub whole: Bytes,
+    pub fraction: Bytes,
 }
 
 /// The text of a name by the bytes of its token: an escaped name is without its `\`.
@@ -37,6 +48,27 @@ pub fn number_value(token: &[u8]) -> Option<u32>
     ensures { MatchOption result (2147483648 ≤ decimal_value token.now) (λ value. (value ≡ decimal_value token.now) × (value < 2147483648)) }
 {
     small_value(token)
+}
+
+/// Digits as numbers from 0 to 9.
+fn digits_in(alloc: Global, bytes: &[u8]) -> Result<Bytes, AllocError>
+    ensures { IfOk result (λ digits. digits ≡ digits_in bytes.now) }
+{
+    let mut digits = Vec::new(alloc);
+    for byte in bytes {
+        digits.push(byte.saturating_sub(b'0'))?;
+    }
+    Ok(Bytes::from_vec(digits))
+}
+
+/// The digits of a decimal by the bytes of its token.
+pub fn decimal_digits(alloc: Global, token: &[u8]) -> Result<DecimalDigits, AllocError>
+    ensures { IfOk result (λ decimal. decimal ≡ decimal_digits token.now) }
+{
+    let len = digit_run(token);
+    let whole = digits_in(alloc, before(token, len))?;
+    let fraction = digits_in(alloc, after(token, len.saturating_add(1)))?;
+    Ok(DecimalDigits { whole, fraction })
 }
 
 /// Puts the bits of a digit that stands for four at the end.
@@ -220,6 +252,7 @@ fn meaning(alloc: Global, size: Option<u32>, text: &[u8]) -> Result<Option<Liter
                     signed: form.signed,
                     base: form.base,
                     bits: BitList::from_vec(bits),
+                    extension: extension_of(form.digits),
                 }))
             } else {
                 Ok(None)

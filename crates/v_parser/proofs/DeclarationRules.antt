@@ -1,18 +1,18 @@
 -- Rules of declarations and assignments.
 use Rattle.std.proofs.Common.{◌≡◌, ℕ, ◌<◌, Bool, true, false, not, ◌&&◌, ◌||◌, eqb, List, [], ◌∷◌, ◌++◌, length, Option, Some, None, is_some, codes, ◌⊎◌, inl, inr, refl, sym, ap, subst, ◌∙◌, arith, append_assoc, length-append}
 use Rattle.std.proofs.lemmas.Bool.{eqb-true, and_from}
-use Rattle.v_tree.specs.declared.places.Place.{Place}
-use Rattle.v_tree.specs.declared.places.Name.{Name}
+use Rattle.v_tree.specs.declared.locations.Location.{Location}
+use Rattle.v_tree.specs.declared.locations.Name.{Name}
 use Rattle.v_tree.specs.declared.expressions.Range.{Range}
 use Rattle.v_tree.specs.declared.expressions.Expr.{Expr}
 use Rattle.v_tree.specs.declared.expressions.Target.{Target}
-use Rattle.v_tree.specs.declared.drives.Drive.{Drive}
+use Rattle.v_tree.specs.declared.drives.DriveStrength.{DriveStrength}
 use Rattle.v_tree.specs.declared.drives.Charge.{Charge}
 use Rattle.v_tree.specs.declared.drives.DelaySpec.{DelaySpec}
 use Rattle.v_tree.specs.declared.declarations.Direction.{Direction}
 use Rattle.v_tree.specs.declared.declarations.NetType.{NetType}
-use Rattle.v_tree.specs.declared.declarations.SpreadWord.{SpreadWord}
-use Rattle.v_tree.specs.declared.declarations.Spread.{Spread}
+use Rattle.v_tree.specs.declared.declarations.VectorWord.{VectorWord}
+use Rattle.v_tree.specs.declared.declarations.VectorRange.{VectorRange}
 use Rattle.v_tree.specs.declared.declarations.PortDecl.{PortDecl}
 use Rattle.v_tree.specs.declared.declarations.ValuedName.{ValuedName}
 use Rattle.v_tree.specs.declared.declarations.Declared.{Declared}
@@ -26,12 +26,12 @@ use Rattle.v_tree.specs.Written as form
 use Rattle.v_tree.specs.Fit as fit
 use Rattle.v_tree.specs.Spelling as spell
 use Rattle.v_parser.specs.Input.{is_mark, name, separated, ◌<$>◌}
-use Rattle.v_parser.specs.Words.{sees_net_type, sees_spread}
+use Rattle.v_parser.specs.Words.{sees_net_type, sees_vector_word}
 use Rattle.v_parser.specs.Expressions.{sees_mark}
-use Rattle.v_parser.specs.Declarations.{begins_spread, sees_value}
+use Rattle.v_parser.specs.Declarations.{begins_vector_range, sees_value}
 use Rattle.v_parser.specs.Declarations as read
 use Rattle.v_parser.proofs.Rules.{Rule, Follow, anything, no_comma, begins, first_form, map_rule, variant_rule, refit_rule, follow_rule, pair_rule, optional_rule, choice_rule, separated_rule}
-use Rattle.v_parser.proofs.TokenRules.{name_rule, skip_rule, word_rule, direction_rule, bare_net_type_rule, bare_spread_rule, net_type_back, spread_back}
+use Rattle.v_parser.proofs.TokenRules.{name_rule, skip_rule, word_rule, direction_rule, bare_net_type_rule, bare_vector_word_rule, net_type_back, vector_word_back}
 use Rattle.v_parser.proofs.TokenRules as token
 use Rattle.v_parser.proofs.ExprRules.{no_bracket, range_rule, expr_at_rule, target_at_rule, begins_target, target_begins}
 use Rattle.v_parser.proofs.DriveRules.{free_if_there, drive_rule, charge_rule, delay_spec_rule}
@@ -71,8 +71,8 @@ names_begin follow (n ∷ names) rest ws f follows = follows n ((behind_commas s
 pub net_type_begins : (t : NetType) (ws : List Written) → begins sees_net_type (spell.net_type t ++ ws) ≡ true
 net_type_begins t ws = ap is_some (net_type_back t)
 
-abbrev port_parts : PortDecl → (Direction × Place) × (Option NetType × (Option Range × (List Name × Unit {0})))
-port_parts d = ((d.direction, d.place), (d.net_type, (d.range, (d.names, tt))))
+abbrev port_parts : PortDecl → (Direction × Location) × (Option NetType × (Option Range × (List Name × Unit {0})))
+port_parts d = ((d.direction, d.location), (d.net_type, (d.range, (d.names, tt))))
 
 -- no `[` is seen
 abbrev no_range : Follow
@@ -99,32 +99,32 @@ port_decl_rule =
     (λ x f. record { range = f.1.1.0; names = f.1.1.1.0 })
     (λ x f. (tt, (free_if_there x.net_type, (f.range, (f.names, tt)))))
 
--- ---- spreads
+-- ---- ranges of vectors
 
 -- a word before a range
-spread_named_rule : Rule read.spread_named spell.spread_before fit.IsFree anything
-unfolding read.spread_named
-spread_named_rule = bare_spread_rule
+vector_word_named_rule : Rule read.vector_word_named spell.word_before_range fit.IsFree anything
+unfolding read.vector_word_named
+vector_word_named_rule = bare_vector_word_rule
 
-abbrev spread_parts : Spread → Option SpreadWord × Range
-spread_parts s = (s.word, s.range)
+abbrev vector_range_parts : VectorRange → Option VectorWord × Range
+vector_range_parts s = (s.word, s.range)
 
 -- a range, with a word before it or without one
-pub spread_rule : Rule read.spread spell.spread fit.IsFitSpread anything
-unfolding read.spread
-spread_rule =
-    refit_rule (map_rule (pair_rule (optional_rule sees_spread spread_named_rule (λ x ws f. ap is_some (spread_back x))) range_rule (λ y ws f g. refl))
-    read.spread_of spread_parts (λ b. refl) (λ a. refl))
+pub vector_range_rule : Rule read.vector_range spell.vector_range fit.IsFitVectorRange anything
+unfolding read.vector_range
+vector_range_rule =
+    refit_rule (map_rule (pair_rule (optional_rule sees_vector_word vector_word_named_rule (λ x ws f. ap is_some (vector_word_back x))) range_rule (λ y ws f g. refl))
+    read.vector_range_of vector_range_parts (λ b. refl) (λ a. refl))
     (λ x f. f.1) (λ x f. (free_if_there x.word, f))
 
 -- a word before a range or none is seen
-word_begins : (o : Option SpreadWord) (r : Range) (ws : List Written) → begins begins_spread ((written_if_there spell.spread_before o ++ spell.range r) ++ ws) ≡ true
+word_begins : (o : Option VectorWord) (r : Range) (ws : List Written) → begins begins_vector_range ((written_if_there spell.word_before_range o ++ spell.range r) ++ ws) ≡ true
 word_begins None r ws = refl
-word_begins (Some x) r ws = ap (λ (o : Option SpreadWord). is_some o || false) (spread_back x)
+word_begins (Some x) r ws = ap (λ (o : Option VectorWord). is_some o || false) (vector_word_back x)
 
 -- a range with a word before it or without one is seen
-pub spread_begins : (s : Spread) (ws : List Written) → begins begins_spread (spell.spread s ++ ws) ≡ true
-spread_begins s ws = word_begins s.word s.range ws
+pub vector_range_begins : (s : VectorRange) (ws : List Written) → begins begins_vector_range (spell.vector_range s ++ ws) ≡ true
+vector_range_begins s ws = word_begins s.word s.range ws
 
 -- ---- names with values
 
@@ -224,70 +224,70 @@ declared_begins follow (kind.Valued (v ∷ names)) rest ws f follows = follows v
 abbrev no_paren : Follow
 no_paren ws = anything ws && not (begins (sees_mark 40) ws)
 
--- no spread is seen
-abbrev no_spread : Follow
-no_spread ws = anything ws && not (begins begins_spread ws)
+-- no vector_range is seen
+abbrev no_vector_range : Follow
+no_vector_range ws = anything ws && not (begins begins_vector_range ws)
 
 -- no delay is seen
 abbrev no_delay : Follow
 no_delay ws = anything ws && not (begins (sees_mark 35) ws)
 
--- a spread isn't a drive or a charge
-word_no_paren : (o : Option SpreadWord) (r : Range) (rest ws : List Written) → no_paren (((written_if_there spell.spread_before o ++ spell.range r) ++ rest) ++ ws) ≡ true
+-- a vector_range isn't a drive or a charge
+word_no_paren : (o : Option VectorWord) (r : Range) (rest ws : List Written) → no_paren (((written_if_there spell.word_before_range o ++ spell.range r) ++ rest) ++ ws) ≡ true
 word_no_paren None r rest ws = refl
 word_no_paren (Some x) r rest ws = refl
 
-abbrev net_parts : NetDecl → (NetType × Place) × (Option Drive × (Option Spread × (Option DelaySpec × (Declared × Unit {0}))))
-net_parts d = ((d.net_type, d.place), (d.drive, (d.spread, (d.delay, (d.declared, tt)))))
+abbrev net_parts : NetDecl → (NetType × Location) × (Option DriveStrength × (Option VectorRange × (Option DelaySpec × (Declared × Unit {0}))))
+net_parts d = ((d.net_type, d.location), (d.drive, (d.vector_range, (d.delay, (d.declared, tt)))))
 
--- `nettype [ drive ] [ spread ] [ delay ] declared ;`
+-- `nettype [ drive ] [ vector_range ] [ delay ] declared ;`
 pub net_decl_rule : Rule read.net_decl spell.net_decl fit.IsFitNetDecl anything
 unfolding read.net_decl
 net_decl_rule =
     refit_rule (map_rule (pair_rule token.net_type_rule
     (pair_rule (optional_rule (sees_mark 40) drive_rule (λ x ws f. refl))
-    (pair_rule (optional_rule begins_spread spread_rule (λ x ws f. spread_begins x ws))
+    (pair_rule (optional_rule begins_vector_range vector_range_rule (λ x ws f. vector_range_begins x ws))
     (pair_rule (optional_rule (sees_mark 35) delay_spec_rule (λ x ws f. refl))
     (pair_rule declared_rule (skip_rule 59)
     (λ y ws f g. refl))
     (λ y ws f g. declared_begins no_delay y.0 (spell.mark 59 ∷ []) ws f.0 (λ n vs. refl)))
-    (λ y ws f g. may_skip no_spread spell.delay_spec y.0 (spell.declared y.1.0 ++ spell.mark 59 ∷ []) ws (λ x. refl)
-    (declared_begins no_spread y.1.0 (spell.mark 59 ∷ []) ws f.1.0 (λ n vs. refl))))
+    (λ y ws f g. may_skip no_vector_range spell.delay_spec y.0 (spell.declared y.1.0 ++ spell.mark 59 ∷ []) ws (λ x. refl)
+    (declared_begins no_vector_range y.1.0 (spell.mark 59 ∷ []) ws f.1.0 (λ n vs. refl))))
     (λ y ws f g.
     let after : List Written = spell.declared y.1.1.0 ++ spell.mark 59 ∷ [] in
-    may_skip no_paren spell.spread y.0 (written_if_there spell.delay_spec y.1.0 ++ after) ws (λ x. word_no_paren x.word x.range (written_if_there spell.delay_spec y.1.0 ++ after) ws)
+    may_skip no_paren spell.vector_range y.0 (written_if_there spell.delay_spec y.1.0 ++ after) ws (λ x. word_no_paren x.word x.range (written_if_there spell.delay_spec y.1.0 ++ after) ws)
     (may_skip no_paren spell.delay_spec y.1.0 after ws (λ x. refl)
     (declared_begins no_paren y.1.1.0 (spell.mark 59 ∷ []) ws f.1.1.0 (λ n vs. refl)))))
     (λ y ws f g. refl))
     read.net_decl_of net_parts (λ b. refl) (λ a. refl))
-    (λ x f. record { spread = f.1.1.0; delay = f.1.1.1.0; declared = f.1.1.1.1.0 })
-    (λ x f. (tt, (free_if_there x.drive, (f.spread, (f.delay, (f.declared, tt))))))
+    (λ x f. record { vector_range = f.1.1.0; delay = f.1.1.1.0; declared = f.1.1.1.1.0 })
+    (λ x f. (tt, (free_if_there x.drive, (f.vector_range, (f.delay, (f.declared, tt))))))
 
-abbrev trireg_parts : TriregDecl → Place × (Option Charge × (Option Spread × (Option DelaySpec × (List Name × Unit {0}))))
-trireg_parts d = (d.place, (d.charge, (d.spread, (d.delay, (d.names, tt)))))
+abbrev trireg_parts : TriregDecl → Location × (Option Charge × (Option VectorRange × (Option DelaySpec × (List Name × Unit {0}))))
+trireg_parts d = (d.location, (d.charge, (d.vector_range, (d.delay, (d.names, tt)))))
 
--- `trireg [ charge ] [ spread ] [ delay ] Name , .. ;`
+-- `trireg [ charge ] [ vector_range ] [ delay ] Name , .. ;`
 pub trireg_decl_rule : Rule read.trireg_decl spell.trireg_decl fit.IsFitTriregDecl anything
 unfolding read.trireg_decl
 trireg_decl_rule =
     refit_rule (map_rule (pair_rule (word_rule (codes "trireg"))
     (pair_rule (optional_rule (sees_mark 40) charge_rule (λ x ws f. refl))
-    (pair_rule (optional_rule begins_spread spread_rule (λ x ws f. spread_begins x ws))
+    (pair_rule (optional_rule begins_vector_range vector_range_rule (λ x ws f. vector_range_begins x ws))
     (pair_rule (optional_rule (sees_mark 35) delay_spec_rule (λ x ws f. refl))
     (pair_rule (separated_rule name_rule (λ x f. omega arith) (λ ws. refl)) (skip_rule 59)
     (λ y ws f g. refl))
     (λ y ws f g. names_begin no_delay y.0 (spell.mark 59 ∷ []) ws f.0 (λ n vs. refl)))
-    (λ y ws f g. may_skip no_spread spell.delay_spec y.0 (between_commas spell.name y.1.0 ++ spell.mark 59 ∷ []) ws (λ x. refl)
-    (names_begin no_spread y.1.0 (spell.mark 59 ∷ []) ws f.1.0 (λ n vs. refl))))
+    (λ y ws f g. may_skip no_vector_range spell.delay_spec y.0 (between_commas spell.name y.1.0 ++ spell.mark 59 ∷ []) ws (λ x. refl)
+    (names_begin no_vector_range y.1.0 (spell.mark 59 ∷ []) ws f.1.0 (λ n vs. refl))))
     (λ y ws f g.
     let after : List Written = between_commas spell.name y.1.1.0 ++ spell.mark 59 ∷ [] in
-    may_skip no_paren spell.spread y.0 (written_if_there spell.delay_spec y.1.0 ++ after) ws (λ x. word_no_paren x.word x.range (written_if_there spell.delay_spec y.1.0 ++ after) ws)
+    may_skip no_paren spell.vector_range y.0 (written_if_there spell.delay_spec y.1.0 ++ after) ws (λ x. word_no_paren x.word x.range (written_if_there spell.delay_spec y.1.0 ++ after) ws)
     (may_skip no_paren spell.delay_spec y.1.0 after ws (λ x. refl)
     (names_begin no_paren y.1.1.0 (spell.mark 59 ∷ []) ws f.1.1.0 (λ n vs. refl)))))
     (λ y ws f g. refl))
     read.trireg_of trireg_parts (λ b. refl) (λ a. refl))
-    (λ x f. record { spread = f.1.1.0; delay = f.1.1.1.0; names = f.1.1.1.1.0 })
-    (λ x f. (tt, (free_if_there x.charge, (f.spread, (f.delay, (f.names, tt))))))
+    (λ x f. record { vector_range = f.1.1.0; delay = f.1.1.1.0; names = f.1.1.1.1.0 })
+    (λ x f. (tt, (free_if_there x.charge, (f.vector_range, (f.delay, (f.names, tt))))))
 
 -- ---- assignments
 
@@ -326,8 +326,8 @@ pairs_begin byte (p ∷ pairs) rest ws other f =
     ap (λ (vs : List Written). not (is_mark byte (first_form vs))) (regroup (spell.target p.target) value others rest ws)
     ∙ ap not (target_no_mark byte (first_form (spell.target p.target ++ (value ++ (others ++ (rest ++ ws))))) other begun)
 
-abbrev assign_parts : AssignItem → Place × (Option Drive × (Option DelaySpec × (List Pair × Unit {0})))
-assign_parts a = (a.place, (a.drive, (a.delay, (a.pairs, tt))))
+abbrev assign_parts : AssignItem → Location × (Option DriveStrength × (Option DelaySpec × (List Pair × Unit {0})))
+assign_parts a = (a.location, (a.drive, (a.delay, (a.pairs, tt))))
 
 -- `assign [ drive ] [ delay ] pair , .. ;`
 pub assign_item_rule : Rule read.assign_item spell.assign_item fit.IsFitAssignItem anything

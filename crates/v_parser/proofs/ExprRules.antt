@@ -1,6 +1,6 @@
 -- Rules of ranges, selects, expressions and targets.
 use Rattle.std.proofs.Common.{◌≡◌, ℕ, zero, suc, ◌<◌, Bool, true, false, not, ◌&&◌, ◌||◌, List, [], ◌∷◌, ◌++◌, length, map, ◌⊎◌, inl, inr, refl, sym, ap, subst, ◌∙◌, arith}
-use Rattle.v_tree.specs.declared.places.Place.{Place}
+use Rattle.v_tree.specs.declared.locations.Location.{Location}
 use Rattle.v_tree.specs.Written.{Form, Written, at, bare, behind_commas, between_commas}
 use Rattle.v_tree.specs.Written as form
 use Rattle.v_tree.specs.Fit as fit
@@ -60,12 +60,12 @@ pick_spelled : (p : Pick) → spell.expr (expr.Pick p) ≡ spell.pick p
 pick_spelled p = ap spell.expr (sym (expr.rolls-Pick p)) ∙ fold-roll-Expr (List Written) spell.expr_layer (Expr-F.Pick p)
 
 -- a number is written so
-number_spelled : (place : Place) (n : ℕ) → spell.expr (expr.Number place n) ≡ at place (form.Number n) ∷ []
-number_spelled place n = ap spell.expr (sym (expr.rolls-Number place n)) ∙ fold-roll-Expr (List Written) spell.expr_layer (Expr-F.Number place n)
+number_spelled : (location : Location) (n : ℕ) → spell.expr (expr.Number location n) ≡ at location (form.Number n) ∷ []
+number_spelled location n = ap spell.expr (sym (expr.rolls-Number location n)) ∙ fold-roll-Expr (List Written) spell.expr_layer (Expr-F.Number location n)
 
 -- a based number is written so
-based_spelled : (place : Place) (literal : Literal) → spell.expr (expr.Based place literal) ≡ at place (form.Based literal) ∷ []
-based_spelled place literal = ap spell.expr (sym (expr.rolls-Based place literal)) ∙ fold-roll-Expr (List Written) spell.expr_layer (Expr-F.Based place literal)
+based_spelled : (location : Location) (literal : Literal) → spell.expr (expr.Based location literal) ≡ at location (form.Based literal) ∷ []
+based_spelled location literal = ap spell.expr (sym (expr.rolls-Based location literal)) ∙ fold-roll-Expr (List Written) spell.expr_layer (Expr-F.Based location literal)
 
 -- parts that are written each by itself
 behind_spelled : (parts : List Expr) → behind_commas (λ (part : List Written). part) (map spell.expr parts) ≡ behind_commas spell.expr parts
@@ -78,9 +78,9 @@ between_spelled [] = refl
 between_spelled (e ∷ parts) = ap (λ (ws : List Written). spell.expr e ++ ws) (behind_spelled parts)
 
 -- a concatenation is written so
-concat_spelled : (place : Place) (parts : List Expr) → spell.expr (expr.Concat place parts) ≡ spell.placed_mark place 123 ∷ (between_commas spell.expr parts ++ spell.mark 125 ∷ [])
-concat_spelled place parts = ap spell.expr (sym (expr.rolls-Concat place parts)) ∙ fold-roll-Expr (List Written) spell.expr_layer (Expr-F.Concat place parts)
-    ∙ ap (λ (ws : List Written). spell.placed_mark place 123 ∷ (ws ++ spell.mark 125 ∷ [])) (between_spelled parts)
+concat_spelled : (location : Location) (parts : List Expr) → spell.expr (expr.Concat location parts) ≡ spell.placed_mark location 123 ∷ (between_commas spell.expr parts ++ spell.mark 125 ∷ [])
+concat_spelled location parts = ap spell.expr (sym (expr.rolls-Concat location parts)) ∙ fold-roll-Expr (List Written) spell.expr_layer (Expr-F.Concat location parts)
+    ∙ ap (λ (ws : List Written). spell.placed_mark location 123 ∷ (ws ++ spell.mark 125 ∷ [])) (between_spelled parts)
 
 -- an expression is what its layer makes
 made_of : (e : Expr) (o : Expr-F Expr) (made : Expr) → out-Expr e ≡ o → roll-Expr o ≡ made → e ≡ made
@@ -96,11 +96,11 @@ IsPick e = (p : Pick) × (e ≡ expr.Pick p) × fit.IsFitPick p
 
 -- a number that fits
 abbrev IsNumeral : Expr → Type 0
-IsNumeral e = (z : ℕ × Place) × (e ≡ expr.Number z.1 z.0) × fit.IsNumber z.0
+IsNumeral e = (z : ℕ × Location) × (e ≡ expr.Number z.1 z.0) × fit.IsNumber z.0
 
 -- a based number that fits
 abbrev IsBased : Expr → Type 0
-IsBased e = (z : Literal × Place) × (e ≡ expr.Based z.1 z.0) × fit.IsLiteral z.0
+IsBased e = (z : Literal × Location) × (e ≡ expr.Based z.1 z.0) × fit.IsLiteral z.0
 
 -- an atom of each variant fits
 atom_of : (AreParts : List Expr → Type 0) (e : Expr) → IsPick e ⊎ (IsNumeral e ⊎ IsBased e) → fit.IsFitExprLayer AreParts (out-Expr e)
@@ -111,9 +111,9 @@ atom_of AreParts e (inr (inr f)) = subst (fit.IsFitExprLayer AreParts) (sym (ap 
 -- which variant an atom is
 atom_by : (e : Expr) (o : Expr-F Expr) → out-Expr e ≡ o → fit.IsFitExprLayer (λ parts. ⊥) o → IsPick e ⊎ (IsNumeral e ⊎ IsBased e)
 atom_by e (Expr-F.Pick p) is f = inl (p, made_of e (Expr-F.Pick p) (expr.Pick p) is (expr.rolls-Pick p), f)
-atom_by e (Expr-F.Number place n) is f = inr (inl ((n, place), made_of e (Expr-F.Number place n) (expr.Number place n) is (expr.rolls-Number place n), f))
-atom_by e (Expr-F.Based place literal) is f = inr (inr ((literal, place), made_of e (Expr-F.Based place literal) (expr.Based place literal) is (expr.rolls-Based place literal), f))
-atom_by e (Expr-F.Concat place parts) is f = absurd f
+atom_by e (Expr-F.Number location n) is f = inr (inl ((n, location), made_of e (Expr-F.Number location n) (expr.Number location n) is (expr.rolls-Number location n), f))
+atom_by e (Expr-F.Based location literal) is f = inr (inr ((literal, location), made_of e (Expr-F.Based location literal) (expr.Based location literal) is (expr.rolls-Based location literal), f))
+atom_by e (Expr-F.Concat location parts) is f = absurd f
 
 -- an expression begins as its variant is written
 begins_as : (sees : Form → Form → Bool) (b : Bool) (e made : Expr) (vs ws : List Written) → e ≡ made → spell.expr made ≡ vs → begins sees (vs ++ ws) ≡ b → begins sees (spell.expr e ++ ws) ≡ b
@@ -122,8 +122,8 @@ begins_as sees b e made vs ws is spelled begun = ap (λ (d : Expr). begins sees 
 -- numbers, with base or without
 numeral_rule : Rule (choice sees_number ((λ z. expr.Number z.1 z.0) <$> placed_number) ((λ z. expr.Based z.1 z.0) <$> placed_based)) spell.expr (λ e. IsNumeral e ⊎ IsBased e) anything
 numeral_rule = choice_rule sees_number
-    (variant_rule placed_number_rule (λ (z : ℕ × Place). expr.Number z.1 z.0) spell.expr (λ z. number_spelled z.1 z.0))
-    (variant_rule placed_based_rule (λ (z : Literal × Place). expr.Based z.1 z.0) spell.expr (λ z. based_spelled z.1 z.0))
+    (variant_rule placed_number_rule (λ (z : ℕ × Location). expr.Number z.1 z.0) spell.expr (λ z. number_spelled z.1 z.0))
+    (variant_rule placed_based_rule (λ (z : Literal × Location). expr.Based z.1 z.0) spell.expr (λ z. based_spelled z.1 z.0))
     (λ e ws f follow. begins_as sees_number true e (expr.Number f.0.1 f.0.0) (at f.0.1 (form.Number f.0.0) ∷ []) ws f.1 (number_spelled f.0.1 f.0.0) refl)
     (λ e ws f follow. begins_as sees_number false e (expr.Based f.0.1 f.0.0) (at f.0.1 (form.Based f.0.0) ∷ []) ws f.1 (based_spelled f.0.1 f.0.0) refl)
 
@@ -150,16 +150,16 @@ begins_expr f = input.is_name f || input.is_number f || input.is_based f || is_m
 -- each layer of an expression begins so
 layer_begins : (o : Expr-F Expr) (ws : List Written) → begins_expr (first_form (spell.expr_layer (map-Expr Expr (List Written) spell.expr o) ++ ws)) ≡ true
 layer_begins (Expr-F.Pick p) ws = refl
-layer_begins (Expr-F.Number place n) ws = refl
-layer_begins (Expr-F.Based place literal) ws = refl
-layer_begins (Expr-F.Concat place parts) ws = refl
+layer_begins (Expr-F.Number location n) ws = refl
+layer_begins (Expr-F.Based location literal) ws = refl
+layer_begins (Expr-F.Concat location parts) ws = refl
 
 -- each layer of an expression has a token
 layer_some : (o : Expr-F Expr) → 0 < length (spell.expr_layer (map-Expr Expr (List Written) spell.expr o))
 layer_some (Expr-F.Pick p) = omega arith
-layer_some (Expr-F.Number place n) = omega arith
-layer_some (Expr-F.Based place literal) = omega arith
-layer_some (Expr-F.Concat place parts) = omega arith
+layer_some (Expr-F.Number location n) = omega arith
+layer_some (Expr-F.Based location literal) = omega arith
+layer_some (Expr-F.Concat location parts) = omega arith
 
 -- an expression begins so
 pub expr_begins : (depth : ℕ) (e : Expr) (ws : List Written) → fit.IsFitExprAt depth e → begins_expr (first_form (spell.expr e ++ ws)) ≡ true
@@ -171,7 +171,7 @@ expr_some depth e f = subst (λ (vs : List Written). 0 < length vs) (sym (fold_o
 
 -- a concatenation of expressions
 abbrev IsConcat : (Expr → Type 0) → Expr → Type 0
-IsConcat IsPart e = (z : Place × (List Expr × Unit {0})) × (e ≡ expr.Concat z.0 z.1.0) × (fit.IsFree z.0 × (fit.AreSome IsPart z.1.0 × fit.IsFree z.1.1))
+IsConcat IsPart e = (z : Location × (List Expr × Unit {0})) × (e ≡ expr.Concat z.0 z.1.0) × (fit.IsFree z.0 × (fit.AreSome IsPart z.1.0 × fit.IsFree z.1.1))
 
 -- an expression is a concatenation or an atom
 layer_of : (depth : ℕ) (e : Expr) → IsConcat (fit.IsFitExprAt depth) e ⊎ IsFitAtom e → fit.IsFitExprAt (suc depth) e
@@ -181,16 +181,16 @@ layer_of depth e (inr f) = atom_of (fit.AreSome (fit.IsFitExprAt depth)) e (atom
 -- which of the two an expression is
 layer_by : (depth : ℕ) (e : Expr) (o : Expr-F Expr) → out-Expr e ≡ o → fit.IsFitExprLayer (fit.AreSome (fit.IsFitExprAt depth)) o → IsConcat (fit.IsFitExprAt depth) e ⊎ fit.IsFitExprLayer (λ parts. ⊥) o
 layer_by depth e (Expr-F.Pick p) is f = inr f
-layer_by depth e (Expr-F.Number place n) is f = inr f
-layer_by depth e (Expr-F.Based place literal) is f = inr f
-layer_by depth e (Expr-F.Concat place parts) is f = inl ((place, (parts, tt)), made_of e (Expr-F.Concat place parts) (expr.Concat place parts) is (expr.rolls-Concat place parts), (tt, (f, tt)))
+layer_by depth e (Expr-F.Number location n) is f = inr f
+layer_by depth e (Expr-F.Based location literal) is f = inr f
+layer_by depth e (Expr-F.Concat location parts) is f = inl ((location, (parts, tt)), made_of e (Expr-F.Concat location parts) (expr.Concat location parts) is (expr.rolls-Concat location parts), (tt, (f, tt)))
 
 -- an atom doesn't begin with a brace
 atom_begins : (o : Expr-F Expr) (ws : List Written) → fit.IsFitExprLayer (λ parts. ⊥) o → begins (sees_mark 123) (spell.expr_layer (map-Expr Expr (List Written) spell.expr o) ++ ws) ≡ false
 atom_begins (Expr-F.Pick p) ws f = refl
-atom_begins (Expr-F.Number place n) ws f = refl
-atom_begins (Expr-F.Based place literal) ws f = refl
-atom_begins (Expr-F.Concat place parts) ws f = absurd f
+atom_begins (Expr-F.Number location n) ws f = refl
+atom_begins (Expr-F.Based location literal) ws f = refl
+atom_begins (Expr-F.Concat location parts) ws f = absurd f
 
 -- an expression with concatenations so deep at most
 pub expr_at_rule : (depth : ℕ) → Rule (read.expr_at depth) spell.expr (fit.IsFitExprAt depth) no_bracket
@@ -200,7 +200,7 @@ expr_at_rule (suc depth) = refit_rule
     (choice_rule (sees_mark 123)
     (variant_rule
     (pair_rule (mark_rule 123) (pair_rule (separated_rule (expr_at_rule depth) (expr_some depth) (λ ws. refl)) (skip_rule 125) (λ y ws f follow. refl)) (λ y ws f follow. refl))
-    (λ (z : Place × (List Expr × Unit {0})). expr.Concat z.0 z.1.0) spell.expr (λ z. concat_spelled z.0 z.1.0))
+    (λ (z : Location × (List Expr × Unit {0})). expr.Concat z.0 z.1.0) spell.expr (λ z. concat_spelled z.0 z.1.0))
     atom_rule
     (λ e ws f follow. begins_as (sees_mark 123) true e (expr.Concat f.0.0 f.0.1.0) (spell.placed_mark f.0.0 123 ∷ (between_commas spell.expr f.0.1.0 ++ spell.mark 125 ∷ [])) ws f.1 (concat_spelled f.0.0 f.0.1.0) refl)
     (λ e ws f follow. ap (λ (vs : List Written). begins (sees_mark 123) (vs ++ ws)) (fold_out-Expr (List Written) spell.expr_layer e) ∙ atom_begins (out-Expr e) ws f))
@@ -221,9 +221,9 @@ targets_between_spelled [] = refl
 targets_between_spelled (t ∷ parts) = ap (λ (ws : List Written). spell.target t ++ ws) (targets_behind_spelled parts)
 
 -- a concatenation of targets is written so
-target_concat_spelled : (place : Place) (parts : List Target) → spell.target (target.Concat place parts) ≡ spell.placed_mark place 123 ∷ (between_commas spell.target parts ++ spell.mark 125 ∷ [])
-target_concat_spelled place parts = ap spell.target (sym (target.rolls-Concat place parts)) ∙ fold-roll-Target (List Written) spell.target_layer (Target-F.Concat place parts)
-    ∙ ap (λ (ws : List Written). spell.placed_mark place 123 ∷ (ws ++ spell.mark 125 ∷ [])) (targets_between_spelled parts)
+target_concat_spelled : (location : Location) (parts : List Target) → spell.target (target.Concat location parts) ≡ spell.placed_mark location 123 ∷ (between_commas spell.target parts ++ spell.mark 125 ∷ [])
+target_concat_spelled location parts = ap spell.target (sym (target.rolls-Concat location parts)) ∙ fold-roll-Target (List Written) spell.target_layer (Target-F.Concat location parts)
+    ∙ ap (λ (ws : List Written). spell.placed_mark location 123 ∷ (ws ++ spell.mark 125 ∷ [])) (targets_between_spelled parts)
 
 -- a target is what its layer makes
 target_made_of : (t : Target) (o : Target-F Target) (made : Target) → out-Target t ≡ o → roll-Target o ≡ made → t ≡ made
@@ -235,7 +235,7 @@ IsTargetPick t = (p : Pick) × (t ≡ target.Pick p) × fit.IsFitPick p
 
 -- a concatenation of targets
 abbrev IsTargetConcat : (Target → Type 0) → Target → Type 0
-IsTargetConcat IsPart t = (z : Place × (List Target × Unit {0})) × (t ≡ target.Concat z.0 z.1.0) × (fit.IsFree z.0 × (fit.AreSome IsPart z.1.0 × fit.IsFree z.1.1))
+IsTargetConcat IsPart t = (z : Location × (List Target × Unit {0})) × (t ≡ target.Concat z.0 z.1.0) × (fit.IsFree z.0 × (fit.AreSome IsPart z.1.0 × fit.IsFree z.1.1))
 
 -- a pick fits as a target
 target_pick_of : (AreParts : List Target → Type 0) (t : Target) → IsTargetPick t → fit.IsFitTargetLayer AreParts (out-Target t)
@@ -244,7 +244,7 @@ target_pick_of AreParts t f = subst (fit.IsFitTargetLayer AreParts) (sym (ap out
 -- a target without concatenations is a pick
 target_pick_by : (t : Target) (o : Target-F Target) → out-Target t ≡ o → fit.IsFitTargetLayer (λ parts. ⊥) o → IsTargetPick t
 target_pick_by t (Target-F.Pick p) is f = (p, target_made_of t (Target-F.Pick p) (target.Pick p) is (target.rolls-Pick p), f)
-target_pick_by t (Target-F.Concat place parts) is f = absurd f
+target_pick_by t (Target-F.Concat location parts) is f = absurd f
 
 -- a target is a concatenation or a pick
 target_layer_of : (depth : ℕ) (t : Target) → IsTargetConcat (fit.IsFitTargetAt depth) t ⊎ IsTargetPick t → fit.IsFitTargetAt (suc depth) t
@@ -254,7 +254,7 @@ target_layer_of depth t (inr f) = target_pick_of (fit.AreSome (fit.IsFitTargetAt
 -- which of the two a target is
 target_layer_by : (depth : ℕ) (t : Target) (o : Target-F Target) → out-Target t ≡ o → fit.IsFitTargetLayer (fit.AreSome (fit.IsFitTargetAt depth)) o → IsTargetConcat (fit.IsFitTargetAt depth) t ⊎ IsTargetPick t
 target_layer_by depth t (Target-F.Pick p) is f = inr (p, target_made_of t (Target-F.Pick p) (target.Pick p) is (target.rolls-Pick p), f)
-target_layer_by depth t (Target-F.Concat place parts) is f = inl ((place, (parts, tt)), target_made_of t (Target-F.Concat place parts) (target.Concat place parts) is (target.rolls-Concat place parts), (tt, (f, tt)))
+target_layer_by depth t (Target-F.Concat location parts) is f = inl ((location, (parts, tt)), target_made_of t (Target-F.Concat location parts) (target.Concat location parts) is (target.rolls-Concat location parts), (tt, (f, tt)))
 
 -- a target begins as its variant is written
 target_begins_as : (sees : Form → Form → Bool) (b : Bool) (t made : Target) (vs ws : List Written) → t ≡ made → spell.target made ≡ vs → begins sees (vs ++ ws) ≡ b → begins sees (spell.target t ++ ws) ≡ b
@@ -267,12 +267,12 @@ begins_target f = input.is_name f || is_mark 123 f
 -- each layer of a target begins so
 target_layer_begins : (o : Target-F Target) (ws : List Written) → begins_target (first_form (spell.target_layer (map-Target Target (List Written) spell.target o) ++ ws)) ≡ true
 target_layer_begins (Target-F.Pick p) ws = refl
-target_layer_begins (Target-F.Concat place parts) ws = refl
+target_layer_begins (Target-F.Concat location parts) ws = refl
 
 -- each layer of a target has a token
 target_layer_some : (o : Target-F Target) → 0 < length (spell.target_layer (map-Target Target (List Written) spell.target o))
 target_layer_some (Target-F.Pick p) = omega arith
-target_layer_some (Target-F.Concat place parts) = omega arith
+target_layer_some (Target-F.Concat location parts) = omega arith
 
 -- a target begins so
 pub target_begins : (depth : ℕ) (t : Target) (ws : List Written) → fit.IsFitTargetAt depth t → begins_target (first_form (spell.target t ++ ws)) ≡ true
@@ -290,7 +290,7 @@ target_at_rule (suc depth) = refit_rule
     (choice_rule (sees_mark 123)
     (variant_rule
     (pair_rule (mark_rule 123) (pair_rule (separated_rule (target_at_rule depth) (target_some depth) (λ ws. refl)) (skip_rule 125) (λ y ws f follow. refl)) (λ y ws f follow. refl))
-    (λ (z : Place × (List Target × Unit {0})). target.Concat z.0 z.1.0) spell.target (λ z. target_concat_spelled z.0 z.1.0))
+    (λ (z : Location × (List Target × Unit {0})). target.Concat z.0 z.1.0) spell.target (λ z. target_concat_spelled z.0 z.1.0))
     (variant_rule pick_rule target.Pick spell.target target_pick_spelled)
     (λ t ws f follow. target_begins_as (sees_mark 123) true t (target.Concat f.0.0 f.0.1.0) (spell.placed_mark f.0.0 123 ∷ (between_commas spell.target f.0.1.0 ++ spell.mark 125 ∷ [])) ws f.1 (target_concat_spelled f.0.0 f.0.1.0) refl)
     (λ t ws f follow. target_begins_as (sees_mark 123) false t (target.Pick f.0) (spell.pick f.0) ws f.1 (target_pick_spelled f.0) refl))

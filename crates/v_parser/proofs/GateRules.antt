@@ -1,7 +1,7 @@
 -- Rules of gates and instances.
 use Rattle.std.proofs.Common.{◌≡◌, ℕ, Bool, true, false, not, ◌&&◌, List, [], ◌∷◌, ◌++◌, Option, Some, None, ◌⊎◌, inl, inr, refl, sym, ap, subst, ◌∙◌, arith, append_assoc, append-nil}
 use Rattle.std.proofs.lemmas.Bool.{eqb-true}
-use Rattle.v_tree.specs.declared.places.Place.{Place}
+use Rattle.v_tree.specs.declared.locations.Location.{Location}
 use Rattle.v_tree.specs.Written.{Form, Written, written_if_there, behind_commas, between_commas}
 use Rattle.v_tree.specs.Written as form
 use Rattle.v_tree.specs.Fit as fit
@@ -21,9 +21,9 @@ use Rattle.v_tree.specs.declared.gates.Connections.{Connections}
 use Rattle.v_tree.specs.declared.gates.Connections.TheVariants.{ByPlace, ByName}
 use Rattle.v_tree.specs.declared.gates.Inst.{Inst}
 use Rattle.v_tree.specs.declared.gates.Instance.{Instance}
-use Rattle.v_tree.specs.declared.places.Name.{Name}
+use Rattle.v_tree.specs.declared.locations.Name.{Name}
 use Rattle.v_tree.specs.declared.expressions.Expr.{Expr}
-use Rattle.v_tree.specs.declared.drives.Drive.{Drive}
+use Rattle.v_tree.specs.declared.drives.DriveStrength.{DriveStrength}
 use Rattle.v_tree.specs.declared.drives.PullLevels.{PullLevels}
 use Rattle.v_tree.specs.declared.drives.DelaySpec.{DelaySpec}
 use Rattle.v_parser.specs.Expressions.{sees_mark, sees_name}
@@ -65,6 +65,8 @@ wordless_level : (f : Form) → is_wordless f ≡ true → sees_level f f ≡ fa
 wordless_level (form.Name text) e = refl
 wordless_level (form.Number n) e = refl
 wordless_level (form.Based literal) e = refl
+wordless_level (form.Decimal digits) e = refl
+wordless_level (form.Directive d) e = refl
 wordless_level (form.Mark b) e = refl
 wordless_level (form.Symbol b) e = refl
 wordless_level f e = absurd cc
@@ -140,7 +142,7 @@ IsPull g = fit.IsFitGateItem g × IsPullKind g.kind
 
 -- gates, from what is read
 abbrev LogicParts : Type 0
-LogicParts = (LogicGate × Place) × (Option Drive × (Option DelaySpec × (List Terms × Unit {0})))
+LogicParts = (LogicGate × Location) × (Option DriveStrength × (Option DelaySpec × (List Terms × Unit {0})))
 
 -- a gate item of those parts
 abbrev logic_of : LogicParts → GateItem
@@ -152,7 +154,7 @@ AreLogicFit z = fit.IsFree z.0 × (fit.IsFitIfThere fit.IsFree z.1.0 × (fit.IsF
 
 -- switches, from what is read
 abbrev SwitchParts : Type 0
-SwitchParts = (Switch × Place) × (Option DelaySpec × (List Terms × Unit {0}))
+SwitchParts = (Switch × Location) × (Option DelaySpec × (List Terms × Unit {0}))
 
 -- a gate item of those parts
 abbrev switch_of : SwitchParts → GateItem
@@ -164,7 +166,7 @@ AreSwitchFit z = fit.IsFree z.0 × (fit.IsFitIfThere fit.IsFitDelaySpec z.1.0 ×
 
 -- switches that always conduct, from what is read
 abbrev TranParts : Type 0
-TranParts = (TranGate × Place) × (List Terms × Unit {0})
+TranParts = (TranGate × Location) × (List Terms × Unit {0})
 
 -- a gate item of those parts
 abbrev tran_of : TranParts → GateItem
@@ -176,7 +178,7 @@ AreTranFit z = fit.IsFree z.0 × (fit.AreSome fit.IsFitTerms z.1.0 × fit.IsFree
 
 -- pull gates, from what is read
 abbrev PullParts : Type 0
-PullParts = (PullGate × Place) × (Option PullLevels × (List Terms × Unit {0}))
+PullParts = (PullGate × Location) × (Option PullLevels × (List Terms × Unit {0}))
 
 -- a gate item of those parts
 abbrev pull_of : PullParts → GateItem
@@ -192,46 +194,46 @@ free_there None = tt
 free_there (Some x) = tt
 
 -- an item of a kind is made of its parts
-logic_by : (place : Place) (kind : GateKind) (list : List Terms) → fit.IsFitGateKind kind → fit.AreSome fit.IsFitTerms list → IsLogicKind kind → (z : LogicParts) × (gates_of place kind list ≡ logic_of z) × AreLogicFit z
-logic_by place (gates.Logic kind strength time) list f s k = (((kind, place), (strength, (time, (list, tt)))), refl, (tt, (free_there strength, (f, (s, tt)))))
-logic_by place (gates.Switch kind time) list f s k = absurd k
-logic_by place (gates.Tran kind) list f s k = absurd k
-logic_by place (gates.Pull kind levels) list f s k = absurd k
+logic_by : (location : Location) (kind : GateKind) (list : List Terms) → fit.IsFitGateKind kind → fit.AreSome fit.IsFitTerms list → IsLogicKind kind → (z : LogicParts) × (gates_of location kind list ≡ logic_of z) × AreLogicFit z
+logic_by location (gates.Logic kind strength time) list f s k = (((kind, location), (strength, (time, (list, tt)))), refl, (tt, (free_there strength, (f, (s, tt)))))
+logic_by location (gates.Switch kind time) list f s k = absurd k
+logic_by location (gates.Tran kind) list f s k = absurd k
+logic_by location (gates.Pull kind levels) list f s k = absurd k
 
 -- the same of switches
-switch_by : (place : Place) (kind : GateKind) (list : List Terms) → fit.IsFitGateKind kind → fit.AreSome fit.IsFitTerms list → IsSwitchKind kind → (z : SwitchParts) × (gates_of place kind list ≡ switch_of z) × AreSwitchFit z
-switch_by place (gates.Logic kind strength time) list f s k = absurd k
-switch_by place (gates.Switch kind time) list f s k = (((kind, place), (time, (list, tt))), refl, (tt, (f, (s, tt))))
-switch_by place (gates.Tran kind) list f s k = absurd k
-switch_by place (gates.Pull kind levels) list f s k = absurd k
+switch_by : (location : Location) (kind : GateKind) (list : List Terms) → fit.IsFitGateKind kind → fit.AreSome fit.IsFitTerms list → IsSwitchKind kind → (z : SwitchParts) × (gates_of location kind list ≡ switch_of z) × AreSwitchFit z
+switch_by location (gates.Logic kind strength time) list f s k = absurd k
+switch_by location (gates.Switch kind time) list f s k = (((kind, location), (time, (list, tt))), refl, (tt, (f, (s, tt))))
+switch_by location (gates.Tran kind) list f s k = absurd k
+switch_by location (gates.Pull kind levels) list f s k = absurd k
 
 -- the same of switches that always conduct
-tran_by : (place : Place) (kind : GateKind) (list : List Terms) → fit.AreSome fit.IsFitTerms list → IsTranKind kind → (z : TranParts) × (gates_of place kind list ≡ tran_of z) × AreTranFit z
-tran_by place (gates.Logic kind strength time) list s k = absurd k
-tran_by place (gates.Switch kind time) list s k = absurd k
-tran_by place (gates.Tran kind) list s k = (((kind, place), (list, tt)), refl, (tt, (s, tt)))
-tran_by place (gates.Pull kind levels) list s k = absurd k
+tran_by : (location : Location) (kind : GateKind) (list : List Terms) → fit.AreSome fit.IsFitTerms list → IsTranKind kind → (z : TranParts) × (gates_of location kind list ≡ tran_of z) × AreTranFit z
+tran_by location (gates.Logic kind strength time) list s k = absurd k
+tran_by location (gates.Switch kind time) list s k = absurd k
+tran_by location (gates.Tran kind) list s k = (((kind, location), (list, tt)), refl, (tt, (s, tt)))
+tran_by location (gates.Pull kind levels) list s k = absurd k
 
 -- the same of pull gates
-pull_by : (place : Place) (kind : GateKind) (list : List Terms) → fit.AreSome fit.IsFitTerms list → IsPullKind kind → (z : PullParts) × (gates_of place kind list ≡ pull_of z) × ArePullFit z
-pull_by place (gates.Logic kind strength time) list s k = absurd k
-pull_by place (gates.Switch kind time) list s k = absurd k
-pull_by place (gates.Tran kind) list s k = absurd k
-pull_by place (gates.Pull kind levels) list s k = (((kind, place), (levels, (list, tt))), refl, (tt, (free_there levels, (s, tt))))
+pull_by : (location : Location) (kind : GateKind) (list : List Terms) → fit.AreSome fit.IsFitTerms list → IsPullKind kind → (z : PullParts) × (gates_of location kind list ≡ pull_of z) × ArePullFit z
+pull_by location (gates.Logic kind strength time) list s k = absurd k
+pull_by location (gates.Switch kind time) list s k = absurd k
+pull_by location (gates.Tran kind) list s k = absurd k
+pull_by location (gates.Pull kind levels) list s k = (((kind, location), (levels, (list, tt))), refl, (tt, (free_there levels, (s, tt))))
 
 -- the first of several parts stands before the rest
 first_of : (a b c d : List Written) → ((a ++ b) ++ c) ++ d ≡ a ++ ((b ++ c) ++ d)
 first_of a b c d = ap (λ (vs : List Written). vs ++ d) (append_assoc a b c) ∙ append_assoc a (b ++ c) d
 
 -- terminals begin with no drive
-terms_driveless : (name : Option Name) (paren : Place) (terminals : List Expr) (ws : List Written) → fit.AreSome fit.IsFitExpr terminals
+terms_driveless : (name : Option Name) (paren : Location) (terminals : List Expr) (ws : List Written) → fit.AreSome fit.IsFitExpr terminals
     → begins sees_drive ((written_if_there spell.name name ++ spell.placed_mark paren 40 ∷ (between_commas spell.expr terminals ++ spell.mark 41 ∷ [])) ++ ws) ≡ false
 terms_driveless (Some n) paren terminals ws f = refl
 terms_driveless None paren terminals ws f = wordless_level (first_form ((between_commas spell.expr terminals ++ spell.mark 41 ∷ []) ++ ws))
     (first_more is_wordless (between_commas spell.expr terminals ++ spell.mark 41 ∷ []) ws refl (first_more is_wordless (between_commas spell.expr terminals) (spell.mark 41 ∷ []) refl (exprs_first terminals f)))
 
 -- terminals begin with no delay
-terms_delayless : (name : Option Name) (paren : Place) (terminals : List Expr) (ws : List Written)
+terms_delayless : (name : Option Name) (paren : Location) (terminals : List Expr) (ws : List Written)
     → begins (sees_mark 35) ((written_if_there spell.name name ++ spell.placed_mark paren 40 ∷ (between_commas spell.expr terminals ++ spell.mark 41 ∷ [])) ++ ws) ≡ false
 terms_delayless (Some n) paren terminals ws = refl
 terms_delayless None paren terminals ws = refl
@@ -270,7 +272,7 @@ logic_item_rule = refit_rule
     (λ z. ap (λ (ws : List Written). spell.placed_word z.0.1 (words.logic_word z.0.0) ∷ ws)
     (append_assoc (written_if_there spell.drive z.1.0) (written_if_there spell.delay_spec z.1.1.0) (between_commas spell.terms z.1.1.1.0 ++ spell.mark 59 ∷ []))))
     (λ g f. subst IsLogic (sym f.1) (record { kind = f.2.1.1.0; gates = f.2.1.1.1.0 }, tt))
-    (λ g f. logic_by g.place g.kind g.gates f.0.kind f.0.gates f.1)
+    (λ g f. logic_by g.location g.kind g.gates f.0.kind f.0.gates f.1)
 
 -- an item of switches
 pub switch_item_rule : Rule read.switch_item spell.gate_item IsSwitch anything
@@ -284,7 +286,7 @@ switch_item_rule = refit_rule
     (λ y ws f follow. refl))
     switch_of spell.gate_item (λ z. refl))
     (λ g f. subst IsSwitch (sym f.1) (record { kind = f.2.1.0; gates = f.2.1.1.0 }, tt))
-    (λ g f. switch_by g.place g.kind g.gates f.0.kind f.0.gates f.1)
+    (λ g f. switch_by g.location g.kind g.gates f.0.kind f.0.gates f.1)
 
 -- an item of switches that always conduct
 pub tran_item_rule : Rule read.tran_item spell.gate_item IsTran anything
@@ -294,7 +296,7 @@ tran_item_rule = refit_rule
     (pair_rule tran_rule (pair_rule (separated_any_rule terms_rule (λ ws. refl)) (skip_rule 59) (λ y ws f follow. refl)) (λ y ws f follow. refl))
     tran_of spell.gate_item (λ z. refl))
     (λ g f. subst IsTran (sym f.1) (record { kind = tt; gates = f.2.1.0 }, tt))
-    (λ g f. tran_by g.place g.kind g.gates f.0.gates f.1)
+    (λ g f. tran_by g.location g.kind g.gates f.0.gates f.1)
 
 -- an item of pull gates
 pub pull_item_rule : Rule read.pull_item spell.gate_item IsPull anything
@@ -308,7 +310,7 @@ pull_item_rule = refit_rule
     (λ y ws f follow. refl))
     pull_of spell.gate_item (λ z. refl))
     (λ g f. subst IsPull (sym f.1) (record { kind = tt; gates = f.2.1.1.0 }, tt))
-    (λ g f. pull_by g.place g.kind g.gates f.0.gates f.1)
+    (λ g f. pull_by g.location g.kind g.gates f.0.gates f.1)
 
 -- a connection by name
 connection_rule : Rule read.connection spell.connection fit.IsFitConnection anything
@@ -320,7 +322,7 @@ connection_rule = refit_rule
     (pair_rule (skip_rule 40) (pair_rule (optional_rule read.begins_expr expr_rule (λ e ws f. expr_begins 64 e ws f)) (skip_rule 41) (λ y ws f follow. refl)) (λ y ws f follow. refl))
     (λ y ws f follow. refl))
     (λ y ws f follow. refl))
-    connection_of (λ (c : Connection). (c.place, (c.port, (tt, (c.value, tt))))) (λ b. refl) (λ a. refl))
+    connection_of (λ (c : Connection). (c.location, (c.port, (tt, (c.value, tt))))) (λ b. refl) (λ a. refl))
     (λ c f. record { port = f.1.0; value = f.1.1.1.0 }) (λ c f. (tt, (f.port, (tt, (f.value, tt)))))
 
 -- a `)` is next
@@ -400,13 +402,13 @@ connections_first (ByName []) f = absurd (omega (arith, f.some))
 connections_first (ByName (c ∷ list)) f = refl
 
 -- an instance begins with no drive
-inst_driveless : (name : Option Name) (paren : Place) (c : Connections) (ws : List Written) → fit.IsFitConnections c
+inst_driveless : (name : Option Name) (paren : Location) (c : Connections) (ws : List Written) → fit.IsFitConnections c
     → begins sees_drive ((written_if_there spell.name name ++ spell.placed_mark paren 40 ∷ (spell.connections c ++ spell.mark 41 ∷ [])) ++ ws) ≡ false
 inst_driveless (Some n) paren c ws f = refl
 inst_driveless None paren c ws f = wordless_level (first_form ((spell.connections c ++ spell.mark 41 ∷ []) ++ ws)) (first_more is_wordless (spell.connections c ++ spell.mark 41 ∷ []) ws refl (connections_first c f))
 
 -- an instance begins with no delay
-inst_delayless : (name : Option Name) (paren : Place) (c : Connections) (ws : List Written)
+inst_delayless : (name : Option Name) (paren : Location) (c : Connections) (ws : List Written)
     → begins (sees_mark 35) ((written_if_there spell.name name ++ spell.placed_mark paren 40 ∷ (spell.connections c ++ spell.mark 41 ∷ [])) ++ ws) ≡ false
 inst_delayless (Some n) paren c ws = refl
 inst_delayless None paren c ws = refl

@@ -1,6 +1,6 @@
 -- Which kind of item a first token begins.
 use Rattle.std.proofs.Common.{◌≡◌, ℕ, zero, suc, ◌<◌, Bool, true, false, if◌then◌else◌, List, [], ◌∷◌, ◌++◌, length, is_some, codes, refl, arith}
-use Rattle.v_tree.specs.declared.places.Place.{Place}
+use Rattle.v_tree.specs.declared.locations.Location.{Location}
 use Rattle.v_tree.specs.declared.declarations.Direction.{Direction}
 use Rattle.v_tree.specs.declared.declarations.Direction.TheVariants as direction
 use Rattle.v_tree.specs.declared.declarations.NetType.{NetType}
@@ -17,14 +17,14 @@ use Rattle.v_tree.specs.declared.gates.GateKind.{GateKind}
 use Rattle.v_tree.specs.declared.gates.GateKind.TheVariants as gates
 use Rattle.v_tree.specs.declared.modules.Item.{Item}
 use Rattle.v_tree.specs.declared.modules.Item.TheVariants as item
-use Rattle.v_tree.specs.Written.{Form, Written, between_commas}
+use Rattle.v_tree.specs.Written.{Form, Written, Spelled, Exactly, exactly, between_commas}
 use Rattle.v_tree.specs.Written as form
 use Rattle.v_tree.specs.Words as words
 use Rattle.v_tree.specs.Spelling as spell
-use Rattle.v_parser.specs.Input.{is_word}
+use Rattle.v_parser.specs.Input.{is_word, directive_in}
 use Rattle.v_parser.specs.Words.{direction_in, net_type_in, logic_in, switch_in, tran_in, pull_in}
 use Rattle.v_parser.specs.Words as stands
-use Rattle.v_parser.proofs.Rules.{first_form}
+use Rattle.v_parser.proofs.SpelledRules.{begins_with}
 
 -- ---- the first test that holds
 
@@ -81,6 +81,8 @@ item_tests =
     ∷ (λ f. is_some (switch_in f))
     ∷ (λ f. is_some (tran_in f))
     ∷ (λ f. is_some (pull_in f))
+    ∷ (λ f. is_some (directive_in f))
+    ∷ (λ f. is_word (codes "specify") f)
     ∷ []
 
 -- the number of the test for gates of a kind
@@ -97,7 +99,9 @@ item_number (item.Nets d) = 2
 item_number (item.Trireg d) = 3
 item_number (item.Assign a) = 4
 item_number (item.Gates g) = gate_number g.kind
-item_number (item.Instances i) = 9
+item_number (item.Cell c) = 9
+item_number (item.Specify b) = 10
+item_number (item.Instances i) = 11
 
 -- a direction begins ports
 direction_index : (x : Direction) → index item_tests (form.Word (words.direction_word x)) ≡ 1
@@ -162,19 +166,45 @@ unfolding stands.direction_of stands.direction_table stands.net_type_of stands.n
 pull_index pull.Pullup = refl
 pull_index pull.Pulldown = refl
 
+-- what the first token of what is spelled says, where it is told exactly
+abbrev pub first_spelled : List Spelled → Form
+first_spelled (Exactly w ∷ ss) = w.form
+first_spelled ss = form.Other
+
 -- gates begin with a word of their kind
-gate_index : (place : Place) (kind : GateKind) (rest ws : List Written) → index item_tests (first_form ((spell.gate_head place kind ++ rest) ++ ws)) ≡ gate_number kind
-gate_index place (gates.Logic kind strength time) rest ws = logic_index kind
-gate_index place (gates.Switch kind time) rest ws = switch_index kind
-gate_index place (gates.Tran kind) rest ws = tran_index kind
-gate_index place (gates.Pull kind levels) rest ws = pull_index kind
+gate_index : (location : Location) (kind : GateKind) (rest : List Written) (ss : List Spelled) → index item_tests (first_spelled (exactly (spell.gate_head location kind ++ rest) ++ ss)) ≡ gate_number kind
+gate_index location (gates.Logic kind strength time) rest ss = logic_index kind
+gate_index location (gates.Switch kind time) rest ss = switch_index kind
+gate_index location (gates.Tran kind) rest ss = tran_index kind
+gate_index location (gates.Pull kind levels) rest ss = pull_index kind
+
+-- gates begin with a token that is told exactly
+gate_starts : (location : Location) (kind : GateKind) (rest : List Written) (ss : List Spelled) (test : Form → Bool)
+    → begins_with test (exactly (spell.gate_head location kind ++ rest) ++ ss) ≡ test (first_spelled (exactly (spell.gate_head location kind ++ rest) ++ ss))
+gate_starts location (gates.Logic kind strength time) rest ss test = refl
+gate_starts location (gates.Switch kind time) rest ss test = refl
+gate_starts location (gates.Tran kind) rest ss test = refl
+gate_starts location (gates.Pull kind levels) rest ss test = refl
+
+-- an item begins with a token that is told exactly
+pub item_starts : (x : Item) (ss : List Spelled) (test : Form → Bool) → begins_with test (spell.module_item x ++ ss) ≡ test (first_spelled (spell.module_item x ++ ss))
+item_starts (item.Ports d) ss test = refl
+item_starts (item.Nets d) ss test = refl
+item_starts (item.Trireg d) ss test = refl
+item_starts (item.Assign a) ss test = refl
+item_starts (item.Gates g) ss test = gate_starts g.location g.kind (between_commas spell.terms g.gates ++ spell.mark 59 ∷ []) ss test
+item_starts (item.Instances i) ss test = refl
+item_starts (item.Cell c) ss test = refl
+item_starts (item.Specify b) ss test = refl
 
 -- an item begins with a token of its kind
-pub item_index : (x : Item) (ws : List Written) → index item_tests (first_form (spell.module_item x ++ ws)) ≡ item_number x
+pub item_index : (x : Item) (ss : List Spelled) → index item_tests (first_spelled (spell.module_item x ++ ss)) ≡ item_number x
 unfolding stands.direction_of stands.direction_table stands.net_type_of stands.net_type_table stands.logic_of stands.logic_table stands.switch_of stands.switch_table stands.tran_of stands.tran_table stands.pull_of stands.pull_table
-item_index (item.Ports d) ws = direction_index d.direction
-item_index (item.Nets d) ws = net_type_index d.net_type
-item_index (item.Trireg d) ws = refl
-item_index (item.Assign a) ws = refl
-item_index (item.Gates g) ws = gate_index g.place g.kind (between_commas spell.terms g.gates ++ spell.mark 59 ∷ []) ws
-item_index (item.Instances i) ws = refl
+item_index (item.Ports d) ss = direction_index d.direction
+item_index (item.Nets d) ss = net_type_index d.net_type
+item_index (item.Trireg d) ss = refl
+item_index (item.Assign a) ss = refl
+item_index (item.Gates g) ss = gate_index g.location g.kind (between_commas spell.terms g.gates ++ spell.mark 59 ∷ []) ss
+item_index (item.Instances i) ss = refl
+item_index (item.Cell c) ss = refl
+item_index (item.Specify b) ss = refl

@@ -21,8 +21,9 @@ pub read_found : (text : List ℕ) (tokens : List Token) (ds : List Description)
 read_found text tokens ds rest small are is = descriptions_found text tokens ds rest (source_of text tokens small are) (ended_of text tokens (are_sound text tokens are)) is
 
 -- descriptions that are written with the tokens are read
-pub read_only : (text : List ℕ) (tokens : List Token) (ds : List Description) → AreWritten text 0 tokens (spelling ds) → AreFit IsFitDescription ds → (rest : Input) × (descriptions_of text tokens ≡ Ok (ds, rest))
-read_only text tokens ds written fit = descriptions_only text tokens ds written fit
+pub read_only : (text : List ℕ) (tokens : List Token) (ds : List Description) → length text ≤ 67108864 → AreTokensOf text tokens → AreWritten text 0 tokens (spelling ds) → AreFit IsFitDescription ds
+    → (rest : Input) × (descriptions_of text tokens ≡ Ok (ds, rest))
+read_only text tokens ds small are written fit = descriptions_only text tokens ds (source_of text tokens small are) written fit
 
 -- where the tokens are refused it is at one of them, and never for want of memory
 pub refused_found : (text : List ℕ) (tokens : List Token) (e : ParseFault) → AreTokensOf text tokens → descriptions_of text tokens ≡ Err e → (e ≢ Memory) × IsRefusalOf text tokens e

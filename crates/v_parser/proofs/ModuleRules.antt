@@ -1,8 +1,8 @@
 -- Rules of modules.
-use Rattle.std.proofs.Common.{◌≡◌, ℕ, suc, ◌<◌, ◌≤◌, true, false, not, List, [], ◌∷◌, ◌++◌, length, Option, codes, ◌⊎◌, inl, inr, refl, sym, ap, subst, ◌∙◌, arith}
+use Rattle.std.proofs.Common.{◌≡◌, ℕ, suc, ◌<◌, ◌≤◌, Bool, true, false, not, List, [], ◌∷◌, ◌++◌, length, Option, codes, ◌⊎◌, inl, inr, refl, sym, ap, subst, ◌∙◌, arith}
 use Rattle.std.proofs.lemmas.Bool.{not-true, cases_lt}
-use Rattle.v_tree.specs.declared.places.Place.{Place}
-use Rattle.v_tree.specs.declared.places.Name.{Name}
+use Rattle.v_tree.specs.declared.locations.Location.{Location}
+use Rattle.v_tree.specs.declared.locations.Name.{Name}
 use Rattle.v_tree.specs.declared.expressions.Range.{Range}
 use Rattle.v_tree.specs.declared.declarations.Direction.{Direction}
 use Rattle.v_tree.specs.declared.declarations.NetType.{NetType}
@@ -20,11 +20,14 @@ use Rattle.v_tree.specs.declared.modules.AnsiEntry.{AnsiEntry}
 use Rattle.v_tree.specs.declared.modules.AnsiEntry.TheVariants as entry
 use Rattle.v_tree.specs.declared.modules.Ports.{Ports}
 use Rattle.v_tree.specs.declared.modules.Ports.TheVariants as ports
+use Rattle.v_tree.specs.declared.directives.CellDirective.{CellDirective}
+use Rattle.v_tree.specs.declared.modules.SpecifyBlock.{SpecifyBlock}
 use Rattle.v_tree.specs.declared.modules.Item.{Item}
 use Rattle.v_tree.specs.declared.modules.Item.TheVariants as item
 use Rattle.v_tree.specs.declared.modules.Module.{Module}
-use Rattle.v_tree.specs.Written.{Written, between_commas}
+use Rattle.v_tree.specs.Written.{Form, Written, Spelled, Exactly, exactly, between_commas, one_by_one}
 use Rattle.v_tree.specs.Fit as fit
+use Rattle.v_tree.specs.Words as words
 use Rattle.v_tree.specs.Spelling as spell
 use Rattle.v_parser.specs.Input.{Input, Reader, pure, is_mark, choice, ◌<$>◌}
 use Rattle.v_parser.specs.Expressions.{sees_mark, sees_name}
@@ -32,13 +35,16 @@ use Rattle.v_parser.specs.Words.{sees_net_type}
 use Rattle.v_parser.specs.Gates.{instance}
 use Rattle.v_parser.specs.Modules.{sees_mark_second, sees_name_second, ends_module}
 use Rattle.v_parser.specs.Modules as read
-use Rattle.v_parser.proofs.Rules.{Rule, Follow, anything, begins, first_form, Takes, ok_is, ok_of, map_rule, variant_rule, refit_rule, follow_rule, pair_rule, optional_rule, choice_rule, commas_rule, separated_rule, many_rule}
+use Rattle.v_parser.proofs.Rules.{Rule, Follow, anything, begins, first_form, Takes, ok_is, ok_of, map_rule, variant_rule, refit_rule, follow_rule, pair_rule, optional_rule, choice_rule, commas_rule, separated_rule}
+use Rattle.v_parser.proofs.SpelledRules.{SpelledRule, begins_with, whatever, exactly_rule, exactly_by_rule, spelled_map_rule, spelled_variant_rule, spelled_refit_rule, respelled_rule, spelled_pair_rule, spelled_choice_rule, spelled_many_rule}
 use Rattle.v_parser.proofs.TokenRules.{name_rule, skip_rule, skip_word_rule, direction_rule, opening_rule}
 use Rattle.v_parser.proofs.ExprRules.{range_rule}
 use Rattle.v_parser.proofs.DriveRules.{free_if_there}
 use Rattle.v_parser.proofs.DeclarationRules.{may_skip, no_net_type, net_type_begins, net_type_rule, port_decl_rule, net_decl_rule, trireg_decl_rule, assign_item_rule}
 use Rattle.v_parser.proofs.GateRules.{IsLogicKind, IsSwitchKind, IsTranKind, IsPullKind, logic_item_rule, switch_item_rule, tran_item_rule, pull_item_rule, instance_rule}
-use Rattle.v_parser.proofs.ItemKinds.{test_at, index_holds, index_fails, item_tests, gate_number, item_number, item_index}
+use Rattle.v_parser.proofs.DirectiveRules.{cell_rule}
+use Rattle.v_parser.proofs.BlockRules.{specify_block_rule}
+use Rattle.v_parser.proofs.ItemKinds.{test_at, index_holds, index_fails, item_tests, gate_number, item_number, first_spelled, item_starts, item_index}
 
 -- ---- items
 
@@ -62,13 +68,20 @@ first_or_later n x f = by (cases_lt n (item_number x))
     by (inl later) = inr (f.0, omega arith)
     by (inr same) = inl (f.0, omega (arith, f.1))
 
+-- an item with a number is seen by the test of that number
+item_seen : (n : ℕ) (x : Item) (ss : List Spelled) → n < 11 → item_number x ≡ n → begins_with (test_at item_tests n) (spell.module_item x ++ ss) ≡ true
+item_seen n x ss few is = item_starts x ss (test_at item_tests n) ∙ index_holds item_tests n (first_spelled (spell.module_item x ++ ss)) (item_index x ss ∙ is) few
+
+-- a later item isn't
+item_unseen : (n : ℕ) (x : Item) (ss : List Spelled) → n < item_number x → begins_with (λ f. not (test_at item_tests n f)) (spell.module_item x ++ ss) ≡ true
+item_unseen n x ss later =
+    item_starts x ss (λ f. not (test_at item_tests n f)) ∙ ap not (index_fails item_tests n (first_spelled (spell.module_item x ++ ss)) (omega (arith, item_index x ss, later)))
+
 -- an item by its test, or a later one
-item_choice : (n : ℕ) {p q : Reader Item} → n < 9 → Rule p spell.module_item (IsItem n) anything → Rule q spell.module_item (IsItemFrom (suc n)) anything
-    → Rule (choice (λ f g. test_at item_tests n f) p q) spell.module_item (IsItemFrom n) anything
+item_choice : (n : ℕ) {p q : Reader Item} → n < 11 → SpelledRule p spell.module_item (IsItem n) whatever → SpelledRule q spell.module_item (IsItemFrom (suc n)) whatever
+    → SpelledRule (choice (λ f g. test_at item_tests n f) p q) spell.module_item (IsItemFrom n) whatever
 item_choice n few first later =
-    refit_rule (choice_rule (λ f g. test_at item_tests n f) first later
-    (λ x ws f g. index_holds item_tests n (first_form (spell.module_item x ++ ws)) (item_index x ws ∙ f.1) few)
-    (λ x ws f g. index_fails item_tests n (first_form (spell.module_item x ++ ws)) (omega (arith, item_index x ws, f.1))))
+    spelled_refit_rule (spelled_choice_rule (test_at item_tests n) first later (λ x ss f. item_seen n x ss few f.1) (λ x ss f. item_unseen n x ss f.1))
     (from_first n) (first_or_later n)
 
 -- each kind of gates has a number from 5 to 8
@@ -83,6 +96,12 @@ item_number_some : (x : Item) → 1 ≤ item_number x
 item_number_some (item.Gates g) = omega (arith, gate_number_within g.kind)
 item_number_some x = omega arith
 
+-- a kind of items with a number: what is read, as such an item
+kind_rule : {A : Type 0} {p : Reader A} {spelled : A → List Spelled} {IsFit : A → Type 0} (n : ℕ) → SpelledRule p spelled IsFit whatever → (make : A → Item) → ((a : A) → spell.module_item (make a) ≡ spelled a)
+    → ((a : A) → IsFit a → IsItem n (make a)) → ((x : Item) → IsItem n x → (a : A) × (x ≡ make a) × IsFit a) → SpelledRule (make <$> p) spell.module_item (IsItem n) whatever
+kind_rule n rule make same fits from =
+    spelled_refit_rule (spelled_variant_rule rule make spell.module_item same) (λ x f. subst (IsItem n) (sym f.1) (fits f.0 f.2)) from
+
 -- items of gates, whose kind has a number
 abbrev AreGates : ℕ → GateItem → Type 0
 AreGates n g = fit.IsFitGateItem g × (gate_number g.kind ≡ n)
@@ -93,9 +112,8 @@ gates_from n (item.Gates g) low high f = (g, refl, f)
 gates_from n x low high f = absurd (omega (arith, f.1))
 
 -- gates of a kind
-gates_rule : (n : ℕ) {p : Reader GateItem} → 5 ≤ n → n ≤ 8 → Rule p spell.gate_item (AreGates n) anything → Rule (item.Gates <$> p) spell.module_item (IsItem n) anything
-gates_rule n low high rule =
-    refit_rule (variant_rule rule item.Gates spell.module_item (λ a. refl)) (λ x f. subst (IsItem n) (sym f.1) f.2) (λ x f. gates_from n x low high f)
+gates_rule : (n : ℕ) {p : Reader GateItem} → 5 ≤ n → n ≤ 8 → Rule p spell.gate_item (AreGates n) anything → SpelledRule (item.Gates <$> p) spell.module_item (IsItem n) whatever
+gates_rule n low high rule = kind_rule n (exactly_rule rule) item.Gates (λ a. refl) (λ a f. f) (λ x f. gates_from n x low high f)
 
 -- logic gates have the number 5
 logic_number : (kind : GateKind) → IsLogicKind kind → gate_number kind ≡ 5
@@ -138,34 +156,56 @@ number_pull (gates.Pull kind levels) e = tt
 number_pull kind e = absurd (omega (arith, e))
 
 -- an item with the last number is instances
-instances_from : (x : Item) → IsItemFrom 9 x → (i : Instance) × (x ≡ item.Instances i) × fit.IsFitInstance i
+instances_from : (x : Item) → IsItemFrom 11 x → (i : Instance) × (x ≡ item.Instances i) × fit.IsFitInstance i
 instances_from (item.Instances i) f = (i, refl, f.0)
 instances_from (item.Gates g) f = absurd (omega (arith, f.1, gate_number_within g.kind))
 instances_from x f = absurd (omega (arith, f.1))
 
 -- instances
-instances_rule : Rule (item.Instances <$> instance) spell.module_item (IsItemFrom 9) anything
+instances_rule : SpelledRule (item.Instances <$> instance) spell.module_item (IsItemFrom 11) whatever
 instances_rule =
-    refit_rule (variant_rule instance_rule item.Instances spell.module_item (λ a. refl))
-    (λ x f. subst (IsItemFrom 9) (sym f.1) (f.2, omega arith)) instances_from
+    spelled_refit_rule (spelled_variant_rule (exactly_rule instance_rule) item.Instances spell.module_item (λ a. refl))
+    (λ x f. subst (IsItemFrom 11) (sym f.1) (f.2, omega arith)) instances_from
 
--- pull gates, or instances
-pulls_rule : Rule read.pulls spell.module_item (IsItemFrom 8) anything
+-- an item with the number of blocks is a block
+block_from : (x : Item) → IsItem 10 x → (b : SpecifyBlock) × (x ≡ item.Specify b) × fit.IsFitBlock b
+block_from (item.Specify b) f = (b, refl, f.0)
+block_from (item.Gates g) f = absurd (omega (arith, f.1, gate_number_within g.kind))
+block_from x f = absurd (omega (arith, f.1))
+
+-- blocks that are passed over, or instances
+blocks_rule : SpelledRule read.blocks spell.module_item (IsItemFrom 10) whatever
+unfolding read.blocks
+blocks_rule = item_choice 10 (omega arith) (kind_rule 10 specify_block_rule item.Specify (λ a. refl) (λ a f. (f, refl)) block_from) instances_rule
+
+-- an item with the number of cells is a cell
+cell_from : (x : Item) → IsItem 9 x → (c : CellDirective) × (x ≡ item.Cell c) × fit.IsFree c
+cell_from (item.Cell c) f = (c, refl, tt)
+cell_from (item.Gates g) f = absurd (omega (arith, f.1, gate_number_within g.kind))
+cell_from x f = absurd (omega (arith, f.1))
+
+-- cells or what comes later
+cells_rule : SpelledRule read.cells spell.module_item (IsItemFrom 9) whatever
+unfolding read.cells
+cells_rule = item_choice 9 (omega arith) (kind_rule 9 (exactly_rule cell_rule) item.Cell (λ a. refl) (λ a f. (tt, refl)) cell_from) blocks_rule
+
+-- pull gates or what comes later
+pulls_rule : SpelledRule read.pulls spell.module_item (IsItemFrom 8) whatever
 unfolding read.pulls
-pulls_rule = item_choice 8 (omega arith) (gates_rule 8 (omega arith) (omega arith) (refit_rule pull_item_rule (λ g f. (f.0, pull_number g.kind f.1)) (λ g f. (f.0, number_pull g.kind f.1)))) instances_rule
+pulls_rule = item_choice 8 (omega arith) (gates_rule 8 (omega arith) (omega arith) (refit_rule pull_item_rule (λ g f. (f.0, pull_number g.kind f.1)) (λ g f. (f.0, number_pull g.kind f.1)))) cells_rule
 
 -- pass gates or what comes later
-trans_rule : Rule read.trans spell.module_item (IsItemFrom 7) anything
+trans_rule : SpelledRule read.trans spell.module_item (IsItemFrom 7) whatever
 unfolding read.trans
 trans_rule = item_choice 7 (omega arith) (gates_rule 7 (omega arith) (omega arith) (refit_rule tran_item_rule (λ g f. (f.0, tran_number g.kind f.1)) (λ g f. (f.0, number_tran g.kind f.1)))) pulls_rule
 
 -- switches or what comes later
-switches_rule : Rule read.switches spell.module_item (IsItemFrom 6) anything
+switches_rule : SpelledRule read.switches spell.module_item (IsItemFrom 6) whatever
 unfolding read.switches
 switches_rule = item_choice 6 (omega arith) (gates_rule 6 (omega arith) (omega arith) (refit_rule switch_item_rule (λ g f. (f.0, switch_number g.kind f.1)) (λ g f. (f.0, number_switch g.kind f.1)))) trans_rule
 
 -- logic gates or what comes later
-gates_or_later_rule : Rule read.gates spell.module_item (IsItemFrom 5) anything
+gates_or_later_rule : SpelledRule read.gates spell.module_item (IsItemFrom 5) whatever
 unfolding read.gates
 gates_or_later_rule = item_choice 5 (omega arith) (gates_rule 5 (omega arith) (omega arith) (refit_rule logic_item_rule (λ g f. (f.0, logic_number g.kind f.1)) (λ g f. (f.0, number_logic g.kind f.1)))) switches_rule
 
@@ -175,12 +215,10 @@ assign_from (item.Assign a) f = (a, refl, f.0)
 assign_from (item.Gates g) f = absurd (omega (arith, f.1, gate_number_within g.kind))
 assign_from x f = absurd (omega (arith, f.1))
 
--- assignments, gates or instances
-assigned_rule : Rule read.assigned spell.module_item (IsItemFrom 4) anything
+-- assignments or what comes later
+assigned_rule : SpelledRule read.assigned spell.module_item (IsItemFrom 4) whatever
 unfolding read.assigned
-assigned_rule =
-    item_choice 4 (omega arith)
-    (refit_rule (variant_rule assign_item_rule item.Assign spell.module_item (λ a. refl)) (λ x f. subst (IsItem 4) (sym f.1) (f.2, refl)) assign_from) gates_or_later_rule
+assigned_rule = item_choice 4 (omega arith) (kind_rule 4 (exactly_rule assign_item_rule) item.Assign (λ a. refl) (λ a f. (f, refl)) assign_from) gates_or_later_rule
 
 -- an item with the number of trireg nets is trireg nets
 trireg_from : (x : Item) → IsItem 3 x → (d : TriregDecl) × (x ≡ item.Trireg d) × fit.IsFitTriregDecl d
@@ -189,11 +227,9 @@ trireg_from (item.Gates g) f = absurd (omega (arith, f.1, gate_number_within g.k
 trireg_from x f = absurd (omega (arith, f.1))
 
 -- trireg nets or what comes later
-charged_rule : Rule read.charged spell.module_item (IsItemFrom 3) anything
+charged_rule : SpelledRule read.charged spell.module_item (IsItemFrom 3) whatever
 unfolding read.charged
-charged_rule =
-    item_choice 3 (omega arith)
-    (refit_rule (variant_rule trireg_decl_rule item.Trireg spell.module_item (λ a. refl)) (λ x f. subst (IsItem 3) (sym f.1) (f.2, refl)) trireg_from) assigned_rule
+charged_rule = item_choice 3 (omega arith) (kind_rule 3 (exactly_rule trireg_decl_rule) item.Trireg (λ a. refl) (λ a f. (f, refl)) trireg_from) assigned_rule
 
 -- an item with the number of nets is nets
 nets_from : (x : Item) → IsItem 2 x → (d : NetDecl) × (x ≡ item.Nets d) × fit.IsFitNetDecl d
@@ -202,11 +238,9 @@ nets_from (item.Gates g) f = absurd (omega (arith, f.1, gate_number_within g.kin
 nets_from x f = absurd (omega (arith, f.1))
 
 -- nets or what comes later
-nets_rule : Rule read.nets spell.module_item (IsItemFrom 2) anything
+nets_rule : SpelledRule read.nets spell.module_item (IsItemFrom 2) whatever
 unfolding read.nets
-nets_rule =
-    item_choice 2 (omega arith)
-    (refit_rule (variant_rule net_decl_rule item.Nets spell.module_item (λ a. refl)) (λ x f. subst (IsItem 2) (sym f.1) (f.2, refl)) nets_from) charged_rule
+nets_rule = item_choice 2 (omega arith) (kind_rule 2 (exactly_rule net_decl_rule) item.Nets (λ a. refl) (λ a f. (f, refl)) nets_from) charged_rule
 
 -- an item with the number of ports is ports
 ports_from : (x : Item) → IsItem 1 x → (d : PortDecl) × (x ≡ item.Ports d) × fit.IsFitPortDecl d
@@ -215,17 +249,16 @@ ports_from (item.Gates g) f = absurd (omega (arith, f.1, gate_number_within g.ki
 ports_from x f = absurd (omega (arith, f.1))
 
 -- an item of a module
-pub module_item_rule : Rule read.module_item spell.module_item fit.IsFitItem anything
+pub module_item_rule : SpelledRule read.module_item spell.module_item fit.IsFitItem whatever
 unfolding read.module_item
 module_item_rule =
-    refit_rule (item_choice 1 (omega arith)
-    (refit_rule (variant_rule port_decl_rule item.Ports spell.module_item (λ a. refl)) (λ x f. subst (IsItem 1) (sym f.1) (f.2, refl)) ports_from) nets_rule)
+    spelled_refit_rule (item_choice 1 (omega arith) (kind_rule 1 (exactly_rule port_decl_rule) item.Ports (λ a. refl) (λ a f. (f, refl)) ports_from) nets_rule)
     (λ x f. f.0) (λ x f. (f, item_number_some x))
 
 -- ---- ports
 
-abbrev ansi_parts : AnsiPort → (Direction × Place) × (Option NetType × (Option Range × Name))
-ansi_parts p = ((p.direction, p.place), (p.net_type, (p.range, p.name)))
+abbrev ansi_parts : AnsiPort → (Direction × Location) × (Option NetType × (Option Range × Name))
+ansi_parts p = ((p.direction, p.location), (p.net_type, (p.range, p.name)))
 
 -- `dir [ nettype ] [ range ] Name`
 ansi_port_rule : Rule read.ansi_port spell.ansi_port fit.IsFitAnsiPort anything
@@ -435,38 +468,58 @@ header_ports_rule =
 -- ---- modules
 
 -- an item begins with another token than `endmodule`
-item_begins : (x : Item) (ws : List Written) → ends_module (first_form (spell.module_item x ++ ws)) ≡ false
-item_begins x ws = index_fails item_tests 0 (first_form (spell.module_item x ++ ws)) (omega (arith, item_index x ws, item_number_some x))
+item_begins : (x : Item) (ss : List Spelled) → begins_with (λ f. not (ends_module f)) (spell.module_item x ++ ss) ≡ true
+item_begins x ss = item_unseen 0 x ss (omega (arith, item_number_some x))
 
 -- gates are written with something
-gates_some : (place : Place) (kind : GateKind) (rest : List Written) → 0 < length (spell.gate_head place kind ++ rest)
-gates_some place (gates.Logic kind strength time) rest = omega arith
-gates_some place (gates.Switch kind time) rest = omega arith
-gates_some place (gates.Tran kind) rest = omega arith
-gates_some place (gates.Pull kind levels) rest = omega arith
+gates_some : (location : Location) (kind : GateKind) (rest : List Written) → 0 < length (exactly (spell.gate_head location kind ++ rest))
+gates_some location (gates.Logic kind strength time) rest = omega arith
+gates_some location (gates.Switch kind time) rest = omega arith
+gates_some location (gates.Tran kind) rest = omega arith
+gates_some location (gates.Pull kind levels) rest = omega arith
 
 -- an item is written with something
 item_some : (x : Item) → 0 < length (spell.module_item x)
-item_some (item.Gates g) = gates_some g.place g.kind (between_commas spell.terms g.gates ++ spell.mark 59 ∷ [])
+item_some (item.Gates g) = gates_some g.location g.kind (between_commas spell.terms g.gates ++ spell.mark 59 ∷ [])
 item_some x = omega arith
 
-abbrev module_parts : Module → (ModuleWord × Place) × (Name × (Ports × (Unit {0} × (List Item × Unit {0}))))
-module_parts m = ((m.word, m.place), (m.name, (m.ports, (tt, (m.items, tt)))))
+abbrev module_parts : Module → (ModuleWord × Location) × (Name × (Ports × (Unit {0} × (List Item × Unit {0}))))
+module_parts m = ((m.word, m.location), (m.name, (m.ports, (tt, (m.items, tt)))))
+
+-- no `(` is next
+abbrev is_other : Form → Bool
+is_other f = not (is_mark 40 f)
+
+-- two parts one after the other
+exactly_both : (a b : List Written) (rest : List Spelled) → exactly (a ++ b) ++ rest ≡ exactly a ++ (exactly b ++ rest)
+exactly_both [] b rest = refl
+exactly_both (w ∷ a) b rest = ap (λ (ss : List Spelled). Exactly w ∷ ss) (exactly_both a b rest)
+
+-- the tokens of a module, part by part
+abbrev module_by_parts : Module → List Spelled
+module_by_parts m =
+    Exactly (spell.placed_word m.location (words.opening_word m.word))
+    ∷ (exactly (spell.name m.name) ++ (exactly (spell.header_ports m.ports) ++ (Exactly (spell.mark 59) ∷ (one_by_one spell.module_item m.items ++ exactly (spell.word (codes "endmodule") ∷ [])))))
+
+module_respelled : (m : Module) → module_by_parts m ≡ spell.module_spelling m
+module_respelled m =
+    ap (λ (ss : List Spelled). Exactly (spell.placed_word m.location (words.opening_word m.word)) ∷ (exactly (spell.name m.name) ++ ss))
+    (sym (exactly_both (spell.header_ports m.ports) (spell.mark 59 ∷ []) (one_by_one spell.module_item m.items ++ exactly (spell.word (codes "endmodule") ∷ []))))
 
 -- `module Name [ ports ] ; { item } endmodule`
-pub module_rule : Rule read.module_at spell.module_spelling fit.IsFitModule anything
+pub module_rule : SpelledRule read.module_at spell.module_spelling fit.IsFitModule whatever
 unfolding read.module_at
 module_rule =
-    refit_rule (map_rule (pair_rule opening_rule
-    (pair_rule name_rule
-    (pair_rule header_ports_rule
-    (pair_rule (skip_rule 59)
-    (pair_rule (many_rule ends_module module_item_rule (λ x f. item_some x) (λ x ws f. item_begins x ws)) (skip_word_rule (codes "endmodule"))
-    (λ y ws f g. refl))
-    (λ y ws f g. refl))
-    (λ y ws f g. refl))
-    (λ y ws f g. refl))
-    (λ y ws f g. refl))
-    read.module_of module_parts (λ b. refl) (λ a. refl))
+    spelled_refit_rule (respelled_rule (spelled_map_rule (spelled_pair_rule (exactly_rule opening_rule)
+    (spelled_pair_rule (exactly_rule name_rule)
+    (spelled_pair_rule (exactly_by_rule is_other header_ports_rule (λ ws h. h))
+    (spelled_pair_rule (exactly_rule (skip_rule 59))
+    (spelled_pair_rule (spelled_many_rule ends_module module_item_rule item_some (λ x ss f. item_begins x ss)) (exactly_rule (skip_word_rule (codes "endmodule")))
+    (λ y ss f g. refl))
+    (λ y ss f g. refl))
+    (λ y ss f g. refl))
+    (λ y ss f g. refl))
+    (λ y ss f g. refl))
+    read.module_of module_parts (λ b. refl) (λ a. refl)) module_respelled)
     (λ x f. record { name = f.1.0; ports = f.1.1.0; items = f.1.1.1.1.0 })
     (λ x f. (tt, (f.name, (f.ports, (tt, (f.items, tt))))))

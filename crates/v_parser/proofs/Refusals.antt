@@ -1,5 +1,5 @@
 -- What is refused is a token of the list.
-use Rattle.std.proofs.Common.{◌≡◌, ◌≢◌, ℕ, zero, suc, Bool, true, false, List, [], ◌∷◌, ◌++◌, length, drop, codes, Option, Some, None, Ok, Err, if◌then◌else◌, refl, ap, subst, ◌∙◌, add-one}
+use Rattle.std.proofs.Common.{◌≡◌, ◌≢◌, ℕ, zero, suc, ◌+◌, Bool, true, false, List, [], ◌∷◌, ◌++◌, length, drop, codes, Option, Some, None, Ok, Err, if◌then◌else◌, refl, ap, subst, ◌∙◌, add-one}
 use Rattle.std.specs.Prelude.{slice_get}
 use Rattle.v_lexer.specs.declared.token.Token.{Token}
 use Rattle.v_lexer.specs.declared.token.TokenKind.TheVariants.{End}
@@ -9,13 +9,15 @@ use Rattle.v_tree.specs.Written.{Form, form_of, form_by, slice_of}
 use Rattle.v_tree.specs.Written as form
 use Rattle.v_parser.specs.declared.fault.ParseFault.{ParseFault}
 use Rattle.v_parser.specs.declared.fault.ParseFault.TheVariants.{Unsupported, Syntax, Memory}
-use Rattle.v_parser.specs.Input.{Input, Outcome, Reader, front, front_in, place, next, next_in, is_left_out, refusal, and_then, ◌>>=◌, pure, ◌<$>◌, ◌&◌, refuse, token_by, token, where_true, is_mark, is_word, is_finish, name_in, number_in, based_in, optional, choice, commas_from, commas, separated, many_from, many_after, many, some, here}
+use Rattle.v_parser.specs.Input.{Input, Outcome, Reader, front, front_in, location, next, next_in, is_left_out, refusal, and_then, ◌>>=◌, pure, ◌<$>◌, ◌&◌, refuse, token_by, token, where_true, is_mark, is_word, is_finish, name_in, number_in, based_in, optional, choice, commas_from, commas, separated, many_from, many_after, many, some, here}
 use Rattle.v_parser.specs.Input as input
 use Rattle.v_parser.specs.Words as words
 use Rattle.v_parser.specs.Expressions as read
 use Rattle.v_parser.specs.Drives as drives
 use Rattle.v_parser.specs.Declarations as declare
 use Rattle.v_parser.specs.Gates as gate
+use Rattle.v_parser.specs.Directives as directive
+use Rattle.v_parser.specs.Blocks as block
 use Rattle.v_parser.specs.Modules as modules
 use Rattle.v_parser.specs.Primitives as udp
 use Rattle.v_parser.specs.Descriptions as all_of
@@ -201,7 +203,7 @@ some_safe : {A : Type 0} {p : Reader A} (stops : Form → Bool) → Safe p → S
 unfolding some
 some_safe {A} {p} stops rule = bind_safe (λ x. many_after stops p (x ∷ [])) rule (λ x. many_after_safe stops rule (x ∷ []))
 
--- the place of the next token
+-- the location of the next token
 here_safe : Safe here
 here_safe = record { safe = λ text all i within. within }
 
@@ -212,7 +214,7 @@ name_safe : Safe input.name
 unfolding input.name
 name_safe = map_safe _ (token_safe name_in refl)
 
--- a number, with its place
+-- a number, with its location
 placed_number_safe : Safe input.placed_number
 unfolding input.placed_number
 placed_number_safe = token_safe number_in refl
@@ -227,7 +229,7 @@ placed_based_safe : Safe input.placed_based
 unfolding input.placed_based
 placed_based_safe = token_safe based_in refl
 
--- a mark, with its place
+-- a mark, with its location
 mark_safe : (byte : ℕ) → Safe (input.mark byte)
 unfolding input.mark
 mark_safe byte = map_safe _ (token_safe (λ f. where_true (is_mark byte f)) refl)
@@ -237,7 +239,7 @@ skip_safe : (byte : ℕ) → Safe (input.skip byte)
 unfolding input.skip
 skip_safe byte = map_safe _ (token_safe (λ f. where_true (is_mark byte f)) refl)
 
--- a word, with its place
+-- a word, with its location
 word_safe : (bytes : List ℕ) → Safe (input.word bytes)
 unfolding input.word
 word_safe bytes = map_safe _ (token_safe (λ f. where_true (is_word bytes f)) refl)
@@ -328,25 +330,30 @@ charge_safe : Safe drives.charge
 unfolding drives.charge
 charge_safe = map_safe _ (pair_safe (skip_safe 40) (pair_safe charge_named_safe (skip_safe 41)))
 
--- `: number : number`
+-- a number or a decimal
+amount_safe : Safe drives.amount
+unfolding drives.amount
+amount_safe = map_safe _ (token_safe drives.amount_in refl)
+
+-- `: amount : amount`
 other_values_safe : Safe drives.other_values
 unfolding drives.other_values
-other_values_safe = map_safe _ (pair_safe (skip_safe 58) (pair_safe number_safe (pair_safe (skip_safe 58) number_safe)))
+other_values_safe = map_safe _ (pair_safe (skip_safe 58) (pair_safe amount_safe (pair_safe (skip_safe 58) amount_safe)))
 
--- a number, or three with `:` between
+-- an amount, or three with `:` between
 delay_value_safe : Safe drives.delay_value
 unfolding drives.delay_value
-delay_value_safe = map_safe _ (pair_safe number_safe (optional_safe _ other_values_safe))
+delay_value_safe = map_safe _ (pair_safe amount_safe (optional_safe _ other_values_safe))
 
 -- `( value , .. )`
 delay_values_safe : Safe drives.delay_values
 unfolding drives.delay_values
 delay_values_safe = map_safe _ (pair_safe (skip_safe 40) (pair_safe (separated_safe delay_value_safe) (skip_safe 41)))
 
--- `# number` or `# ( value , .. )`
+-- `# amount` or `# ( value , .. )`
 delay_spec_safe : Safe drives.delay_spec
 unfolding drives.delay_spec
-delay_spec_safe = map_safe _ (pair_safe (mark_safe 35) (choice_safe _ (map_safe _ number_safe) delay_values_safe))
+delay_spec_safe = map_safe _ (pair_safe (mark_safe 35) (choice_safe _ (map_safe _ amount_safe) delay_values_safe))
 
 -- ---- declarations and assignments
 
@@ -356,9 +363,9 @@ unfolding declare.net_type
 net_type_safe = map_safe _ (token_safe words.net_type_in refl)
 
 -- a word before a range
-spread_named_safe : Safe declare.spread_named
-unfolding declare.spread_named
-spread_named_safe = map_safe _ (token_safe words.spread_in refl)
+vector_word_named_safe : Safe declare.vector_word_named
+unfolding declare.vector_word_named
+vector_word_named_safe = map_safe _ (token_safe words.vector_word_in refl)
 
 -- `dir [ nettype ] [ range ] Name , .. ;`
 port_decl_safe : Safe declare.port_decl
@@ -367,9 +374,9 @@ port_decl_safe = map_safe _ (pair_safe (token_safe words.direction_in refl)
     (pair_safe (optional_safe _ net_type_safe) (pair_safe (optional_safe _ range_safe) (pair_safe (separated_safe name_safe) (skip_safe 59)))))
 
 -- a range, with a word before it or without one
-spread_safe : Safe declare.spread
-unfolding declare.spread
-spread_safe = map_safe _ (pair_safe (optional_safe _ spread_named_safe) range_safe)
+vector_range_safe : Safe declare.vector_range
+unfolding declare.vector_range
+vector_range_safe = map_safe _ (pair_safe (optional_safe _ vector_word_named_safe) range_safe)
 
 -- `Name = expr`
 valued_name_safe : Safe declare.valued_name
@@ -381,17 +388,17 @@ declared_safe : Safe declare.declared
 unfolding declare.declared
 declared_safe = choice_safe _ (map_safe _ (separated_safe valued_name_safe)) (map_safe _ (separated_safe name_safe))
 
--- `nettype [ drive ] [ spread ] [ delay ] declared ;`
+-- `nettype [ drive ] [ vector_range ] [ delay ] declared ;`
 net_decl_safe : Safe declare.net_decl
 unfolding declare.net_decl
 net_decl_safe = map_safe _ (pair_safe (token_safe words.net_type_in refl)
-    (pair_safe (optional_safe _ drive_safe) (pair_safe (optional_safe _ spread_safe) (pair_safe (optional_safe _ delay_spec_safe) (pair_safe declared_safe (skip_safe 59))))))
+    (pair_safe (optional_safe _ drive_safe) (pair_safe (optional_safe _ vector_range_safe) (pair_safe (optional_safe _ delay_spec_safe) (pair_safe declared_safe (skip_safe 59))))))
 
--- `trireg [ charge ] [ spread ] [ delay ] Name , .. ;`
+-- `trireg [ charge ] [ vector_range ] [ delay ] Name , .. ;`
 trireg_decl_safe : Safe declare.trireg_decl
 unfolding declare.trireg_decl
 trireg_decl_safe = map_safe _ (pair_safe (word_safe (codes "trireg"))
-    (pair_safe (optional_safe _ charge_safe) (pair_safe (optional_safe _ spread_safe) (pair_safe (optional_safe _ delay_spec_safe) (pair_safe (separated_safe name_safe) (skip_safe 59))))))
+    (pair_safe (optional_safe _ charge_safe) (pair_safe (optional_safe _ vector_range_safe) (pair_safe (optional_safe _ delay_spec_safe) (pair_safe (separated_safe name_safe) (skip_safe 59))))))
 
 -- `target = expr`
 assigned_pair_safe : Safe declare.pair
@@ -453,12 +460,77 @@ unfolding gate.instance
 instance_safe = map_safe _ (pair_safe name_safe
     (pair_safe (optional_safe _ drive_safe) (pair_safe (optional_safe _ delay_spec_safe) (pair_safe (separated_safe inst_safe) (skip_safe 59)))))
 
+-- ---- directives and blocks
+
+-- a directive, with its location
+directive_word_safe : (bytes : List ℕ) → Safe (input.directive_word bytes)
+unfolding input.directive_word
+directive_word_safe bytes = map_safe _ (token_safe (λ f. where_true (input.is_directive bytes f)) refl)
+
+-- a cell
+cell_safe : Safe directive.cell
+unfolding directive.cell
+cell_safe = map_safe _ (token_safe directive.cell_in refl)
+
+-- a number and a unit
+scale_safe : Safe directive.scale
+unfolding directive.scale directive.factor directive.unit
+scale_safe = map_safe _ (pair_safe (map_safe _ (token_safe directive.factor_in refl)) (map_safe _ (token_safe directive.unit_in refl)))
+
+-- a scale of times
+timescale_safe : Safe directive.timescale
+unfolding directive.timescale
+timescale_safe = map_safe _ (pair_safe (directive_word_safe (codes "`timescale")) (pair_safe scale_safe (pair_safe (skip_safe 47) scale_safe)))
+
+-- a type of implicit nets
+default_nettype_safe : Safe directive.default_nettype
+unfolding directive.default_nettype directive.default
+default_nettype_safe = map_safe _ (pair_safe (directive_word_safe (codes "`default_nettype")) (map_safe _ (token_safe directive.default_in refl)))
+
+-- a directive
+directive_safe : Safe directive.directive
+unfolding directive.directive directive.defaults directive.resets
+directive_safe = choice_safe _ (map_safe _ timescale_safe) (choice_safe _ (map_safe _ default_nettype_safe) (choice_safe _ (map_safe _ (directive_word_safe (codes "`resetall"))) (map_safe _ cell_safe)))
+
+-- the tokens inside a block, in so many turns at most
+passed_from_safe : (n count : ℕ) → Safe (block.passed_from n count)
+unfolding block.passed_from
+passed_from_safe zero count = pure_safe count
+passed_from_safe (suc n) count = record { safe = λ text all i within. by (passed_from_safe n (count + 1)) text all i within (block.ends_block (front i)) refl }
+  where
+    by : Safe (block.passed_from n (count + 1)) → (text : List ℕ) (all : List Token) (i : Input) → IsWithin text all i → (ended : Bool) → block.ends_block (front i) ≡ ended
+        → IsSafe text all (if ended then Ok (count, i) else block.passed_from n (count + 1) (next i))
+    by rest text all i within true is = within
+    by rest text all i within false is =
+        let more : front i ≢ form.End = λ (end : front i ≡ form.End). (let same = ap block.ends_block end in cc) in
+        rest.safe text all (next i) (goes_on text all i within more)
+
+-- the tokens inside a block
+passed_safe : Safe block.passed
+unfolding block.passed
+passed_safe = record { safe = λ text all i within. (passed_from_safe (length i.tokens) 0).safe text all i within }
+
+-- a block that is passed over
+specify_block_safe : Safe block.specify_block
+unfolding block.specify_block
+specify_block_safe = map_safe _ (pair_safe (word_safe (codes "specify")) (pair_safe passed_safe (skip_word_safe (codes "endspecify"))))
+
 -- ---- modules
 
--- pull gates or instances
+-- blocks or instances
+blocks_safe : Safe modules.blocks
+unfolding modules.blocks
+blocks_safe = choice_safe _ (map_safe _ specify_block_safe) (map_safe _ instance_safe)
+
+-- cells or what comes later
+cells_safe : Safe modules.cells
+unfolding modules.cells
+cells_safe = choice_safe _ (map_safe _ cell_safe) blocks_safe
+
+-- pull gates or what comes later
 pulls_safe : Safe modules.pulls
 unfolding modules.pulls
-pulls_safe = choice_safe _ (map_safe _ pull_item_safe) (map_safe _ instance_safe)
+pulls_safe = choice_safe _ (map_safe _ pull_item_safe) cells_safe
 
 -- pass gates or what comes later
 trans_safe : Safe modules.trans
@@ -578,7 +650,7 @@ row_safe : Safe udp.row
 unfolding udp.row
 row_safe = map_safe _ (pair_safe (some_safe _ field_safe) (pair_safe (skip_symbol_safe 58) (pair_safe outcome_safe (skip_symbol_safe 59))))
 
--- a row, with its place
+-- a row, with its location
 placed_row_safe : Safe udp.placed_row
 unfolding udp.placed_row
 placed_row_safe = map_safe _ (pair_safe here_safe row_safe)
@@ -669,10 +741,10 @@ udp_safe : Safe udp.udp
 unfolding udp.udp
 udp_safe = map_safe _ (pair_safe (word_safe (codes "primitive")) (pair_safe name_safe (pair_safe header_safe (pair_safe (skip_safe 59) body_safe))))
 
--- a module or a primitive
+-- a module, a primitive or a directive
 description_safe : Safe all_of.description
-unfolding all_of.description
-description_safe = choice_safe _ (map_safe _ udp_safe) (map_safe _ module_at_safe)
+unfolding all_of.description all_of.others
+description_safe = choice_safe _ (map_safe _ udp_safe) (choice_safe _ (map_safe _ directive_safe) (map_safe _ module_at_safe))
 
 -- ---- the end of the text
 

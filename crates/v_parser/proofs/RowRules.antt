@@ -2,7 +2,7 @@
 use Rattle.std.proofs.Common.{◌≡◌, ℕ, ◌<◌, ◌==◌, Bool, true, false, not, ◌&&◌, if◌then◌else◌, List, [], ◌∷◌, ◌++◌, length, Option, Some, None, ◌⊎◌, inl, inr, refl, sym, ap, subst, ◌∙◌, arith, append-nil}
 use Rattle.std.specs.List.{AllByRecursion}
 use Rattle.std.proofs.lemmas.Bool.{eqb-true}
-use Rattle.v_tree.specs.declared.places.Place.{Place}
+use Rattle.v_tree.specs.declared.locations.Location.{Location}
 use Rattle.v_tree.specs.declared.primitives.PlacedRow.{PlacedRow}
 use Rattle.udp_table.specs.declared.symbols.Base.{Base}
 use Rattle.udp_table.specs.declared.symbols.Base.TheVariants as base
@@ -238,7 +238,7 @@ row_rule =
     read.row_of row_parts (λ b. refl) (λ a. refl))
     (λ x f. f.0) (λ x f. (f, (tt, (tt, tt))))
 
--- the place of a row's first token isn't kept in the row
+-- the location of a row's first token isn't kept in the row
 row_open : (ins : List Sym) (rest : List Written) → fit.AreSome fit.IsFree ins → IsOpen (one_by_one spell.field ins ++ rest)
 row_open [] rest f = absurd (omega (arith, f.some))
 row_open (x ∷ ins) rest f = field_open x (one_by_one spell.field ins) rest
@@ -247,10 +247,10 @@ row_open (x ∷ ins) rest f = field_open x (one_by_one spell.field ins) rest
     field_open (syms.Edge from to) others rest = refl
     field_open x others rest = refl
 
-abbrev placed_parts : PlacedRow → Place × UdpRow
-placed_parts r = (r.place, r.row)
+abbrev placed_parts : PlacedRow → Location × UdpRow
+placed_parts r = (r.location, r.row)
 
--- a row, with the place of its first token
+-- a row, with the location of its first token
 pub placed_row_rule : Rule read.placed_row spell.placed_row fit.IsFitPlacedRow anything
 unfolding read.placed_row
 placed_row_rule =
@@ -261,7 +261,7 @@ placed_row_rule =
 pub row_some : (r : PlacedRow) → fit.IsFitPlacedRow r → 0 < length (spell.placed_row r)
 row_some r f = by (spell.row r.row) (row_open r.row.ins (spell.symbol 58 ∷ (spell.outcome r.row.state r.row.out ++ spell.symbol 59 ∷ [])) f)
   where
-    by : (ws : List Written) → IsOpen ws → 0 < length (placed_first r.place ws)
+    by : (ws : List Written) → IsOpen ws → 0 < length (placed_first r.location ws)
     by [] unkept = absurd unkept
     by (w ∷ ws) unkept = omega arith
 
@@ -269,10 +269,10 @@ row_some r f = by (spell.row r.row) (row_open r.row.ins (spell.symbol 58 ∷ (sp
 pub row_begins : (r : PlacedRow) (ws : List Written) → fit.IsFitPlacedRow r → ends_table (first_form (spell.placed_row r ++ ws)) ≡ false
 row_begins r ws f = by r.row.ins f
   where
-    by : (ins : List Sym) → fit.AreSome fit.IsFree ins → ends_table (first_form (placed_first r.place (one_by_one spell.field ins ++ (spell.symbol 58 ∷ (spell.outcome r.row.state r.row.out ++ spell.symbol 59 ∷ []))) ++ ws)) ≡ false
+    by : (ins : List Sym) → fit.AreSome fit.IsFree ins → ends_table (first_form (placed_first r.location (one_by_one spell.field ins ++ (spell.symbol 58 ∷ (spell.outcome r.row.state r.row.out ++ spell.symbol 59 ∷ []))) ++ ws)) ≡ false
     by [] f = absurd (omega (arith, f.some))
     by (x ∷ ins) f = begun x (one_by_one spell.field ins) (spell.symbol 58 ∷ (spell.outcome r.row.state r.row.out ++ spell.symbol 59 ∷ []))
       where
-        begun : (x : Sym) (others after : List Written) → ends_table (first_form (placed_first r.place ((spell.field x ++ others) ++ after) ++ ws)) ≡ false
+        begun : (x : Sym) (others after : List Written) → ends_table (first_form (placed_first r.location ((spell.field x ++ others) ++ after) ++ ws)) ≡ false
         begun (syms.Edge from to) others after = refl
         begun x others after = refl

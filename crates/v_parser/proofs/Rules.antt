@@ -3,17 +3,17 @@ use Rattle.std.proofs.Common.{◌≡◌, ℕ, zero, suc, ◌+◌, ◌<◌, ◌�
 use Rattle.std.specs.List.{AllByRecursion}
 use Rattle.std.proofs.lemmas.Bool.{and_parts, not-true, eqb-true}
 use Rattle.v_lexer.specs.declared.token.Token.{Token}
-use Rattle.v_tree.specs.declared.places.Place.{Place}
-use Rattle.v_tree.specs.Written.{Form, form_of, Written, at, bare, placed_first, IsKept, AreWritten, written_if_there, behind_commas, between_commas, one_by_one}
+use Rattle.v_tree.specs.declared.locations.Location.{Location}
+use Rattle.v_tree.specs.Written.{Form, form_of, Written, at, bare, placed_first, IsKept, written_if_there, behind_commas, between_commas, one_by_one}
 use Rattle.v_tree.specs.Written as form
 use Rattle.v_tree.specs.Fit.{IsSoundForm, AreFit, AreSome, IsFitIfThere}
-use Rattle.v_parser.specs.Input.{Input, Outcome, Reader, front_in, front, place, next_in, next, and_then, ◌>>=◌, pure, ◌<$>◌, ◌&◌, token_by, token, is_mark, optional, choice, commas_from, commas, separated, many_from, many_after, many, some, here}
+use Rattle.v_parser.specs.Input.{Input, Outcome, Reader, front_in, front, location, next_in, next, and_then, ◌>>=◌, pure, ◌<$>◌, ◌&◌, token_by, token, is_mark, optional, choice, commas_from, commas, separated, many_from, many_after, many, some, here}
 
 -- the next token is what is written
 pub record StandsAt (i : Input) (w : Written) : Type 0 where
   pub some : 0 < length i.tokens
   pub form : front i ≡ w.form
-  pub kept : IsKept w.place (place i)
+  pub kept : IsKept w.location (location i)
 
 -- from one input to another the tokens are what is written
 abbrev pub Takes : Input → List Written → Input → Type 0
@@ -62,7 +62,7 @@ next_length text number [] h = absurd (omega arith)
 next_length text number (token ∷ tokens) h = refl
 
 -- one token fewer is left after the next one
-next_shorter : (i : Input) → 0 < length i.tokens → suc (length (next i).tokens) ≡ length i.tokens
+pub next_shorter : (i : Input) → 0 < length i.tokens → suc (length (next i).tokens) ≡ length i.tokens
 unfolding next
 next_shorter i h = next_length i.text i.number i.tokens h
 
@@ -72,7 +72,7 @@ next_sound text number [] few sound = record { few = few; sound = sound }
 next_sound text number (token ∷ tokens) few sound = record { few = omega arith; sound = sound.1 }
 
 -- what is left after the next token is as sound
-next_source : (i : Input) → IsSource i → IsSource (next i)
+pub next_source : (i : Input) → IsSource i → IsSource (next i)
 unfolding next
 next_source i h = next_sound i.text i.number i.tokens h.few h.sound
 
@@ -156,21 +156,21 @@ abbrev some_of : {A : Type 0} → A → Option A
 some_of x = Some x
 
 -- a token that is picked is read
-picks : {A : Type 0} (pick : Form → Option A) (i : Input) (x : A) → pick (front i) ≡ Some x → token pick i ≡ Ok ((x, place i), next i)
+picks : {A : Type 0} (pick : Form → Option A) (i : Input) (x : A) → pick (front i) ≡ Some x → token pick i ≡ Ok ((x, location i), next i)
 picks {A} pick i x e = ap (λ (o : Option A). token_by o i) e
 
 -- a token that is read is picked, and the rest is what is left after it
-token_is : {A : Type 0} (o : Option A) (i : Input) (y : (A × Place) × Input) → token_by o i ≡ Ok y → (o ≡ Some y.0.0) × (y.0.1 ≡ place i) × (y.1 ≡ next i)
+token_is : {A : Type 0} (o : Option A) (i : Input) (y : (A × Location) × Input) → token_by o i ≡ Ok y → (o ≡ Some y.0.0) × (y.0.1 ≡ location i) × (y.1 ≡ next i)
 token_is {A} (Some x) i y e =
-    let made : (A × Place) × Input = ((x, place i), next i) in
+    let made : (A × Location) × Input = ((x, location i), next i) in
     let same = ok_is made y e in
-    (ap (λ (z : (A × Place) × Input). some_of z.0.0) same, ap (λ (z : (A × Place) × Input). z.0.1) (sym same), ap (λ (z : (A × Place) × Input). z.1) (sym same))
+    (ap (λ (z : (A × Location) × Input). some_of z.0.0) same, ap (λ (z : (A × Location) × Input). z.0.1) (sym same), ap (λ (z : (A × Location) × Input). z.1) (sym same))
 token_is None i y e = absurd cc
 
--- a token whose place is kept
+-- a token whose location is kept
 pub token_rule : {A : Type 0} (pick : Form → Option A) (says : A → Form) (IsFit : A → Type 0) → pick form.Other ≡ None → ((f : Form) (x : A) → pick f ≡ Some x → f ≡ says x)
     → ((f : Form) (x : A) → IsSoundForm f → pick f ≡ Some x → IsFit x) → ((x : A) → IsFit x → pick (says x) ≡ Some x)
-    → Rule (token pick) (λ (z : A × Place). at z.1 (says z.0) ∷ []) (λ (z : A × Place). IsFit z.0) anything
+    → Rule (token pick) (λ (z : A × Location). at z.1 (says z.0) ∷ []) (λ (z : A × Location). IsFit z.0) anything
 token_rule {A} pick says IsFit none is fits back = record {
   takes = λ i j x source e.
       let t = token_is (pick (front i)) i (x, j) e in
@@ -179,16 +179,16 @@ token_rule {A} pick says IsFit none is fits back = record {
       ((stands, sym t.2), fits (front i) x.0 (front_sound i source) t.0);
   again = λ i j x ws t end fit follows.
       let picked : pick (front i) ≡ Some x.0 = ap pick t.0.form ∙ back x.0 fit in
-      (next i, picks pick i x.0 picked ∙ ap (λ (at : Place). ok_of ((x.0, at), next i)) (sym t.0.kept), t.1);
+      (next i, picks pick i x.0 picked ∙ ap (λ (at : Location). ok_of ((x.0, at), next i)) (sym t.0.kept), t.1);
 }
 
--- a token whose place isn't kept
+-- a token whose location isn't kept
 pub bare_rule : {A : Type 0} (pick : Form → Option A) (says : A → Form) (IsFit : A → Type 0) → pick form.Other ≡ None → ((f : Form) (x : A) → pick f ≡ Some x → f ≡ says x)
     → ((f : Form) (x : A) → IsSoundForm f → pick f ≡ Some x → IsFit x) → ((x : A) → IsFit x → pick (says x) ≡ Some x)
-    → Rule ((λ (z : A × Place). z.0) <$> token pick) (λ (x : A). bare (says x) ∷ []) IsFit anything
+    → Rule ((λ (z : A × Location). z.0) <$> token pick) (λ (x : A). bare (says x) ∷ []) IsFit anything
 bare_rule {A} pick says IsFit none is fits back = record {
   takes = λ i j x source e.
-      let a = bind_ok (token pick i) (λ (z : A × Place). pure z.0) (x, j) e in
+      let a = bind_ok (token pick i) (λ (z : A × Location). pure z.0) (x, j) e in
       let t = token_is (pick (front i)) i a.0 a.1 in
       let there : 0 < length i.tokens = front_some i (pick_some pick a.0.0.0 i none t.0) in
       let stands : StandsAt i (bare (says a.0.0.0)) = record { some = there; form = is (front i) a.0.0.0 t.0; kept = tt } in
@@ -197,7 +197,7 @@ bare_rule {A} pick says IsFit none is fits back = record {
       ((stands, sym t.2), fits (front i) a.0.0.0 (front_sound i source) t.0);
   again = λ i j x ws t end fit follows.
       let picked : pick (front i) ≡ Some x = ap pick t.0.form ∙ back x fit in
-      (next i, bind_step (token pick i) (λ (z : A × Place). pure z.0) ((x, place i), next i) (picks pick i x picked), t.1);
+      (next i, bind_step (token pick i) (λ (z : A × Location). pure z.0) ((x, location i), next i) (picks pick i x picked), t.1);
 }
 
 -- the same parts under another type
@@ -569,38 +569,38 @@ some_rule {A} {p} {written} {IsFit} stops rule there begun = record {
         let s = many_again stops rule begun (length r.0.tokens) (x ∷ []) xs r.0 j ws le r.2 end fit.1 follows in
         (s.0, bind_step (p i) (λ y. many_after stops p (y ∷ [])) (x, r.0) r.1 ∙ s.1, s.2)
 
--- ---- the place of the first token
+-- ---- the location of the first token
 
--- something is written, and the place of its first token isn't kept
+-- something is written, and the location of its first token isn't kept
 abbrev pub IsOpen : List Written → Type 0
 IsOpen [] = ⊥
-IsOpen (w ∷ ws) = w.place ≡ None
+IsOpen (w ∷ ws) = w.location ≡ None
 
--- what is taken is also taken with the place where it begins
-placed_takes : (ws : List Written) (i j : Input) (p : Place) → IsOpen ws → p ≡ place i → Takes i ws j → Takes i (placed_first p ws) j
+-- what is taken is also taken with the location where it begins
+placed_takes : (ws : List Written) (i j : Input) (p : Location) → IsOpen ws → p ≡ location i → Takes i ws j → Takes i (placed_first p ws) j
 placed_takes [] i j p unkept is t = absurd unkept
 placed_takes (w ∷ ws) i j p unkept is t = (record { some = t.0.some; form = t.0.form; kept = is }, t.1)
 
--- what is taken with the place where it begins is also taken without it
-unplaced_takes : (vs ws : List Written) (i j : Input) (p : Place) → IsOpen vs → Takes i (placed_first p vs ++ ws) j → (p ≡ place i) × Takes i (vs ++ ws) j
+-- what is taken with the location where it begins is also taken without it
+unplaced_takes : (vs ws : List Written) (i j : Input) (p : Location) → IsOpen vs → Takes i (placed_first p vs ++ ws) j → (p ≡ location i) × Takes i (vs ++ ws) j
 unplaced_takes [] ws i j p unkept t = absurd unkept
 unplaced_takes (w ∷ vs) ws i j p unkept t =
-    (t.0.kept, (record { some = t.0.some; form = t.0.form; kept = subst (λ (o : Option Place). IsKept o (place i)) (sym unkept) tt }, t.1))
+    (t.0.kept, (record { some = t.0.some; form = t.0.form; kept = subst (λ (o : Option Location). IsKept o (location i)) (sym unkept) tt }, t.1))
 
--- a part with the place of its first token
+-- a part with the location of its first token
 pub here_rule : {A : Type 0} {p : Reader A} {written : A → List Written} {IsFit : A → Type 0} {may_follow : Follow} → Rule p written IsFit may_follow → ((x : A) → IsFit x → IsOpen (written x))
-    → Rule (here & p) (λ (z : Place × A). placed_first z.0 (written z.1)) (λ (z : Place × A). IsFit z.1) may_follow
+    → Rule (here & p) (λ (z : Location × A). placed_first z.0 (written z.1)) (λ (z : Location × A). IsFit z.1) may_follow
 here_rule {A} {p} {written} {IsFit} {may_follow} rule unkept = record {
   takes = λ i j z source e.
-      let a = bind_ok (p i) (λ y. pure (place i, y)) (z, j) e in
-      let made : (Place × A) × Input = ((place i, a.0.0), a.0.1) in
+      let a = bind_ok (p i) (λ y. pure (location i, y)) (z, j) e in
+      let made : (Location × A) × Input = ((location i, a.0.0), a.0.1) in
       let t = rule.takes i a.0.1 a.0.0 source a.1 in
-      subst (λ (y : (Place × A) × Input). Takes i (placed_first y.0.0 (written y.0.1)) y.1 × IsFit y.0.1) (ok_is made (z, j) a.2)
-      (placed_takes (written a.0.0) i a.0.1 (place i) (unkept a.0.0 t.1) refl t.0, t.1);
+      subst (λ (y : (Location × A) × Input). Takes i (placed_first y.0.0 (written y.0.1)) y.1 × IsFit y.0.1) (ok_is made (z, j) a.2)
+      (placed_takes (written a.0.0) i a.0.1 (location i) (unkept a.0.0 t.1) refl t.0, t.1);
   again = λ i j z ws t end fit follows.
       let u = unplaced_takes (written z.1) ws i j z.0 (unkept z.1 fit) t in
       let r = rule.again i j z.1 ws u.1 end fit follows in
-      (r.0, bind_step (p i) (λ y. pure (place i, y)) (z.1, r.0) r.1 ∙ ap (λ (at : Place). ok_of ((at, z.1), r.0)) (sym u.0), r.2);
+      (r.0, bind_step (p i) (λ y. pure (location i, y)) (z.1, r.0) r.1 ∙ ap (λ (at : Location). ok_of ((at, z.1), r.0)) (sym u.0), r.2);
 }
 
 -- ---- the whole list
@@ -608,26 +608,3 @@ here_rule {A} {p} {written} {IsFit} {may_follow} rule unkept = record {
 -- an input with all tokens of a text
 abbrev pub whole : List ℕ → List Token → Input
 whole text tokens = record { text = text; tokens = tokens; number = 0 }
-
--- all tokens are taken where they are what is written, one by one
-pub written_takes : (text : List ℕ) (number : ℕ) (tokens : List Token) (ws : List Written) → AreWritten text number tokens ws
-    → (j : Input) × IsEnd j × Takes (record { text = text; tokens = tokens; number = number }) ws j
-unfolding front place next
-written_takes text number [] [] h = (record { text = text; tokens = []; number = number }, refl, refl)
-written_takes text number [] (w ∷ ws) h = absurd h
-written_takes text number (token ∷ tokens) [] h = absurd h
-written_takes text number (token ∷ tokens) (w ∷ ws) h =
-    let r = written_takes text (number + 1) tokens ws h.1 in
-    (r.0, r.1, (record { some = omega arith; form = h.0.form; kept = h.0.place }, r.2))
-
--- what is written is what the tokens are, where all are taken
-pub takes_written : (text : List ℕ) (number : ℕ) (tokens : List Token) (ws : List Written) (j : Input) → IsEnd j → Takes (record { text = text; tokens = tokens; number = number }) ws j
-    → AreWritten text number tokens ws
-unfolding front place next
-takes_written text number [] [] j end t = tt
-takes_written text number [] (w ∷ ws) j end t = absurd (omega (arith, t.0.some))
-takes_written text number (token ∷ tokens) [] j end t =
-    let none : length (token ∷ tokens) ≡ length j.tokens = ap (λ (k : Input). length k.tokens) t in
-    let ended : length j.tokens ≡ 0 = ap (λ (ts : List Token). length ts) end in
-    absurd (omega arith)
-takes_written text number (token ∷ tokens) (w ∷ ws) j end t = (record { form = t.0.form; place = t.0.kept }, takes_written text (number + 1) tokens ws j end t.1)

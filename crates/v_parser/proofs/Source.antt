@@ -1,22 +1,22 @@
 -- What the tokens of a text keep, for those who read them.
-use Rattle.std.proofs.Common.{◌≡◌, ◌≢◌, ℕ, ◌+◌, ◌<◌, ◌≤◌, Bool, false, List, [], ◌∷◌, length, drop, Option, Some, None, refl, sym, subst, ◌⊎◌, arith, inl, inr, length-append, ltb-true}
+use Rattle.std.proofs.Common.{◌≡◌, ◌≢◌, ℕ, ◌+◌, ◌<◌, ◌≤◌, Bool, false, List, [], ◌∷◌, length, drop, Option, Some, None, refl, sym, subst, ◌⊎◌, arith, inl, inr, length-append, ltb-true, length-take, ◌-◌}
 use Rattle.std.specs.Prelude.{nat_lt}
 use Rattle.std.specs.List.{AllByRecursion}
 use Rattle.v_lexer.specs.declared.token.Token.{Token}
 use Rattle.v_lexer.specs.declared.token.TokenKind.{TokenKind}
 use Rattle.v_lexer.specs.declared.token.TokenKind.TheVariants as kind
 use Rattle.v_lexer.specs.declared.token.Piece.{Piece}
-use Rattle.v_lexer.specs.Sound.{IsVisible, HasBits, IsSound, AreSound}
+use Rattle.v_lexer.specs.Sound.{IsVisible, AreDigits, HasDigits, HasBits, IsSound, AreSound}
 use Rattle.std.proofs.lemmas.Bool.{cases_Bool}
 use Rattle.std.proofs.lemmas.List.Elements.{recursion_from_All}
 use Rattle.v_lexer.specs.Places.{table_after}
 use Rattle.v_lexer.specs.Reading.{AreTokensOf, Reads, line_of}
 use Rattle.v_lexer.specs.Tokens.{given}
-use Rattle.v_lexer.specs.Values.{name_text, literal_of}
+use Rattle.v_lexer.specs.Values.{name_text, decimal_digits, literal_of}
 use Rattle.v_lexer.specs.Numbers.{decimal_value}
 use Rattle.v_lexer.proofs.Sound.{are_sound}
 use Rattle.v_tree.specs.Written.{slice_of, form_of, form_by, number_form, based_form}
-use Rattle.v_tree.specs.Fit.{IsSoundForm, IsNameText}
+use Rattle.v_tree.specs.Fit.{IsSoundForm, IsNameText, IsDigit, IsFitDecimal, AreSome}
 use Rattle.v_parser.proofs.Rules.{IsSource}
 use Rattle.v_parser.proofs.DescriptionRules.{AreEnded}
 use Rattle.v_parser.specs.Reading.{whole}
@@ -50,16 +50,30 @@ number_sound n =
 based_sound : (bytes : List ℕ) → HasBits bytes → IsSoundForm (based_form (literal_of bytes))
 based_sound bytes h = rw h.means (record { some = h.some; few = h.few })
 
+-- digits fit, where they are few enough
+digits_sound : (digits : List ℕ) → AreDigits digits → length digits ≤ 67108864 → AreSome IsDigit digits
+digits_sound digits h few = record { some = h.some; fit = record { few = omega arith; each = h.each } }
+
+decimal_sound : (bytes : List ℕ) → HasDigits bytes → length bytes ≤ 67108864 → IsFitDecimal (decimal_digits bytes)
+decimal_sound bytes h few = record {
+  whole = digits_sound (decimal_digits bytes).whole h.whole (omega (arith, h.few_whole));
+  fraction = digits_sound (decimal_digits bytes).fraction h.fraction (omega (arith, h.few_fraction));
+}
+
+-- a token is no longer than its text
+slice_few : (text : List ℕ) (token : Token) → token.end ≤ length text → length text ≤ 67108864 → length (slice_of text token) ≤ 67108864
+slice_few text token within small = omega (arith, length-take (token.end - token.start) (drop token.start text))
+
 -- each token says what a tree may keep
-sound_form : (text : List ℕ) (token : Token) → IsSound text token → IsSoundForm (form_of text token)
+sound_form : (text : List ℕ) (token : Token) → length text ≤ 67108864 → IsSound text token → IsSoundForm (form_of text token)
 unfolding form_of
-sound_form text token sound = by token.kind refl
+sound_form text token small sound = by token.kind refl
   where
     by : (k : TokenKind) → token.kind ≡ k → IsSoundForm (form_by k (slice_of text token))
     by kind.Name is = name_sound (name_text (slice_of text token)) (sound.name is)
     by kind.Word is = tt
     by kind.Number is = number_sound (decimal_value (slice_of text token))
-    by kind.Decimal is = tt
+    by kind.Decimal is = decimal_sound (slice_of text token) (sound.decimal is) (slice_few text token sound.within small)
     by kind.Exponent is = tt
     by kind.Based is = based_sound (slice_of text token) (sound.based is)
     by kind.Text is = tt
@@ -81,18 +95,18 @@ end_or_not kind.Symbol = inr (λ e. cc)
 end_or_not kind.Mark = inr (λ e. cc)
 end_or_not kind.End = inl refl
 
-forms_sound : (text : List ℕ) (tokens : List Token) → AreSound text tokens → AllByRecursion (λ (t : Token). IsSoundForm (form_of text t)) tokens
-forms_sound text [] h = absurd h
-forms_sound text (token ∷ others) h =
+forms_sound : (text : List ℕ) (tokens : List Token) → length text ≤ 67108864 → AreSound text tokens → AllByRecursion (λ (t : Token). IsSoundForm (form_of text t)) tokens
+forms_sound text [] small h = absurd h
+forms_sound text (token ∷ others) small h =
     elim (end_or_not token.kind) [
-      | inl end ↦ (sound_form text token h.0, subst (AllByRecursion (λ (t : Token). IsSoundForm (form_of text t))) (sym (h.1 end)) tt)
-      | inr more ↦ (sound_form text token h.0, forms_sound text others (h.2 more))
+      | inl end ↦ (sound_form text token small h.0, subst (AllByRecursion (λ (t : Token). IsSoundForm (form_of text t))) (sym (h.1 end)) tt)
+      | inr more ↦ (sound_form text token small h.0, forms_sound text others small (h.2 more))
     ]
 
 pub source_of : (text : List ℕ) (tokens : List Token) → length text ≤ 67108864 → AreTokensOf text tokens → IsSource (whole text tokens)
 source_of text tokens small are = record {
   few = omega (arith, tokens_few text tokens are);
-  sound = forms_sound text tokens (are_sound text tokens are);
+  sound = forms_sound text tokens small (are_sound text tokens are);
 }
 
 pub ended_of : (text : List ℕ) (tokens : List Token) → AreSound text tokens → AreEnded tokens

@@ -5,14 +5,14 @@ use Rattle.std.specs.Str.{bytes_eq}
 use Rattle.std.proofs.lemmas.Bool.{eqb-true, eq-eqb}
 use Rattle.std.proofs.lemmas.Slice.Eq.{bytes_eq-Decides}
 use Rattle.v_lexer.specs.declared.values.Literal.{Literal}
-use Rattle.v_tree.specs.declared.places.Place.{Place}
-use Rattle.v_tree.specs.declared.places.Name.{Name}
+use Rattle.v_tree.specs.declared.locations.Location.{Location}
+use Rattle.v_tree.specs.declared.locations.Name.{Name}
 use Rattle.v_tree.specs.declared.declarations.Direction.{Direction}
 use Rattle.v_tree.specs.declared.declarations.Direction.TheVariants as direction
 use Rattle.v_tree.specs.declared.declarations.NetType.{NetType}
 use Rattle.v_tree.specs.declared.declarations.NetType.TheVariants as net_type
-use Rattle.v_tree.specs.declared.declarations.SpreadWord.{SpreadWord}
-use Rattle.v_tree.specs.declared.declarations.SpreadWord.TheVariants as spread
+use Rattle.v_tree.specs.declared.declarations.VectorWord.{VectorWord}
+use Rattle.v_tree.specs.declared.declarations.VectorWord.TheVariants as vector
 use Rattle.v_tree.specs.declared.drives.Charge.{Charge}
 use Rattle.v_tree.specs.declared.drives.Charge.TheVariants as charge
 use Rattle.v_tree.specs.declared.gates.LogicGate.{LogicGate}
@@ -33,7 +33,7 @@ use Rattle.v_tree.specs.Written as form
 use Rattle.v_tree.specs.Fit as fit
 use Rattle.v_tree.specs.Words as words
 use Rattle.v_tree.specs.Spelling as spell
-use Rattle.v_parser.specs.Input.{token, is_mark, is_symbol, is_word, is_finish, word_in, where_true, name_in, number_in, based_in, ◌<$>◌}
+use Rattle.v_parser.specs.Input.{token, is_mark, is_symbol, is_word, is_directive, is_finish, word_in, where_true, name_in, number_in, based_in, ◌<$>◌}
 use Rattle.v_parser.specs.Input as input
 use Rattle.v_parser.specs.Words.{named, chosen, level_with}
 use Rattle.v_parser.specs.Words as stands
@@ -55,11 +55,11 @@ name_fits : (f : Form) (x : List ℕ) → fit.IsSoundForm f → name_in f ≡ So
 name_fits (form.Name text) x sound e = subst fit.IsNameText (some_is text x e) sound
 name_fits f x sound e = absurd cc
 
-abbrev name_of : List ℕ × Place → Name
-name_of z = record { place = z.1; text = z.0 }
+abbrev name_of : List ℕ × Location → Name
+name_of z = record { location = z.1; text = z.0 }
 
-abbrev parts_of : Name → List ℕ × Place
-parts_of n = (n.text, n.place)
+abbrev parts_of : Name → List ℕ × Location
+parts_of n = (n.text, n.location)
 
 -- a name
 pub name_rule : Rule input.name spell.name fit.IsFitName anything
@@ -81,7 +81,7 @@ pub number_rule : Rule input.number (λ n. spell.number n ∷ []) fit.IsNumber a
 unfolding input.number input.placed_number
 number_rule = bare_rule number_in form.Number fit.IsNumber refl number_is number_fits (λ x f. refl)
 
--- a number, with its place
+-- a number, with its location
 pub placed_number_rule : Rule input.placed_number (λ z. at z.1 (form.Number z.0) ∷ []) (λ z. fit.IsNumber z.0) anything
 unfolding input.placed_number
 placed_number_rule = token_rule number_in form.Number fit.IsNumber refl number_is number_fits (λ x f. refl)
@@ -96,7 +96,7 @@ based_fits : (f : Form) (x : Literal) → fit.IsSoundForm f → based_in f ≡ S
 based_fits (form.Based n) x sound e = subst fit.IsLiteral (some_is n x e) sound
 based_fits f x sound e = absurd cc
 
--- a based number, with its place
+-- a based number, with its location
 pub placed_based_rule : Rule input.placed_based (λ z. at z.1 (form.Based z.0) ∷ []) (λ z. fit.IsLiteral z.0) anything
 unfolding input.placed_based
 placed_based_rule = token_rule based_in form.Based fit.IsLiteral refl based_is based_fits (λ x f. refl)
@@ -131,21 +131,30 @@ pub finish_is : (f : Form) → is_finish f ≡ true → f ≡ form.End
 finish_is form.End e = refl
 finish_is f e = absurd cc
 
--- a token that a test takes, with its place
-tested_rule : (test : Form → Bool) (says : Form) → test form.Other ≡ false → ((f : Form) → test f ≡ true → f ≡ says) → where_true (test says) ≡ Some tt
-    → Rule ((λ (p : Unit {0} × Place). p.1) <$> token (λ f. where_true (test f))) (λ (place : Place). at place says ∷ []) fit.IsFree anything
+-- a directive that is seen is the directive
+pub directive_is : (bytes : List ℕ) (f : Form) → is_directive bytes f ≡ true → f ≡ form.Directive bytes
+directive_is bytes (form.Directive d) e = ap form.Directive ((bytes_eq-Decides d bytes).0 e)
+directive_is bytes f e = absurd cc
+
+-- a directive is seen as itself
+directive_back : (bytes : List ℕ) → where_true (is_directive bytes (form.Directive bytes)) ≡ Some tt
+directive_back bytes = ap where_true ((bytes_eq-Decides bytes bytes).1 refl)
+
+-- a token that a test takes, with its location
+pub tested_rule : (test : Form → Bool) (says : Form) → test form.Other ≡ false → ((f : Form) → test f ≡ true → f ≡ says) → where_true (test says) ≡ Some tt
+    → Rule ((λ (p : Unit {0} × Location). p.1) <$> token (λ f. where_true (test f))) (λ (location : Location). at location says ∷ []) fit.IsFree anything
 tested_rule test says other is back =
     map_rule (token_rule (λ f. where_true (test f)) (λ u. says) fit.IsFree (ap where_true other) (λ f u e. is f (where_holds (test f) u e)) (λ f u sound e. tt) (λ u free. back))
-    (λ (p : Unit {0} × Place). p.1) (λ (place : Place). (tt, place)) (λ b. refl) (λ a. refl)
+    (λ (p : Unit {0} × Location). p.1) (λ (location : Location). (tt, location)) (λ b. refl) (λ a. refl)
 
--- a token that a test takes, without its place
+-- a token that a test takes, without its location
 skipped_rule : (test : Form → Bool) (says : Form) → test form.Other ≡ false → ((f : Form) → test f ≡ true → f ≡ says) → where_true (test says) ≡ Some tt
-    → Rule ((λ (p : Unit {0} × Place). p.0) <$> token (λ f. where_true (test f))) (λ (u : Unit {0}). bare says ∷ []) fit.IsFree anything
+    → Rule ((λ (p : Unit {0} × Location). p.0) <$> token (λ f. where_true (test f))) (λ (u : Unit {0}). bare says ∷ []) fit.IsFree anything
 skipped_rule test says other is back =
     bare_rule (λ f. where_true (test f)) (λ u. says) fit.IsFree (ap where_true other) (λ f u e. is f (where_holds (test f) u e)) (λ f u sound e. tt) (λ u free. back)
 
--- a mark, with its place
-pub mark_rule : (byte : ℕ) → Rule (input.mark byte) (λ place. spell.placed_mark place byte ∷ []) fit.IsFree anything
+-- a mark, with its location
+pub mark_rule : (byte : ℕ) → Rule (input.mark byte) (λ location. spell.placed_mark location byte ∷ []) fit.IsFree anything
 unfolding input.mark
 mark_rule byte = tested_rule (is_mark byte) (form.Mark byte) refl (mark_is byte) (mark_back byte)
 
@@ -168,10 +177,15 @@ pub skip_symbol_rule : (byte : ℕ) → Rule (input.skip_symbol byte) (λ u. spe
 unfolding input.skip_symbol
 skip_symbol_rule byte = skipped_rule (is_symbol byte) (form.Symbol byte) refl (symbol_is byte) (symbol_back byte)
 
--- a word, with its place
-pub word_rule : (bytes : List ℕ) → Rule (input.word bytes) (λ place. spell.placed_word place bytes ∷ []) fit.IsFree anything
+-- a word, with its location
+pub word_rule : (bytes : List ℕ) → Rule (input.word bytes) (λ location. spell.placed_word location bytes ∷ []) fit.IsFree anything
 unfolding input.word
 word_rule bytes = tested_rule (is_word bytes) (form.Word bytes) refl (word_is bytes) (word_back bytes)
+
+-- a directive, with its location
+pub directive_word_rule : (bytes : List ℕ) → Rule (input.directive_word bytes) (λ location. spell.placed_directive location bytes ∷ []) fit.IsFree anything
+unfolding input.directive_word
+directive_word_rule bytes = tested_rule (is_directive bytes) (form.Directive bytes) refl (directive_is bytes) (directive_back bytes)
 
 -- a word
 pub skip_word_rule : (bytes : List ℕ) → Rule (input.skip_word bytes) (λ u. spell.word bytes ∷ []) fit.IsFree anything
@@ -186,7 +200,7 @@ finish_rule = skipped_rule is_finish form.End refl finish_is refl
 -- ---- words that stand for something
 
 -- what a table gives for a word is that word's
-named_is : {A : Type 0} (word_of : A → List ℕ) (table : List (List ℕ × A)) (word : List ℕ) (x : A) → named table word ≡ Some x
+pub named_is : {A : Type 0} (word_of : A → List ℕ) (table : List (List ℕ × A)) (word : List ℕ) (x : A) → named table word ≡ Some x
     → AllByRecursion (λ (entry : List ℕ × A). entry.0 ≡ word_of entry.1) table → word ≡ word_of x
 named_is word_of [] word x e all = absurd cc
 named_is {A} word_of (entry ∷ entries) word x e all = by (bytes_eq word entry.0) (bytes_eq-Decides word entry.0).0 e (λ later. named_is word_of entries word x later all.1)
@@ -203,17 +217,17 @@ pub chosen_is : {A : Type 0} (stands_for : List ℕ → Option A) (word_of : A �
 chosen_is stands_for word_of is (form.Word w) x e = ap form.Word (is w x e)
 chosen_is stands_for word_of is f x e = absurd cc
 
--- a word that stands for something, with its place
+-- a word that stands for something, with its location
 chosen_rule : {A : Type 0} (stands_for : List ℕ → Option A) (word_of : A → List ℕ) → ((word : List ℕ) (x : A) → stands_for word ≡ Some x → word ≡ word_of x)
     → ((x : A) → stands_for (word_of x) ≡ Some x)
-    → Rule (token (λ f. chosen stands_for (word_in f))) (λ (z : A × Place). spell.placed_word z.1 (word_of z.0) ∷ []) fit.IsFree anything
+    → Rule (token (λ f. chosen stands_for (word_in f))) (λ (z : A × Location). spell.placed_word z.1 (word_of z.0) ∷ []) fit.IsFree anything
 chosen_rule stands_for word_of is back =
     token_rule (λ f. chosen stands_for (word_in f)) (λ x. form.Word (word_of x)) fit.IsFree refl (chosen_is stands_for word_of is) (λ f x sound e. tt) (λ x free. back x)
 
--- a word that stands for something, without its place
+-- a word that stands for something, without its location
 bare_chosen_rule : {A : Type 0} (stands_for : List ℕ → Option A) (word_of : A → List ℕ) → ((word : List ℕ) (x : A) → stands_for word ≡ Some x → word ≡ word_of x)
     → ((x : A) → stands_for (word_of x) ≡ Some x)
-    → Rule ((λ (z : A × Place). z.0) <$> token (λ f. chosen stands_for (word_in f))) (λ (x : A). spell.word (word_of x) ∷ []) fit.IsFree anything
+    → Rule ((λ (z : A × Location). z.0) <$> token (λ f. chosen stands_for (word_in f))) (λ (x : A). spell.word (word_of x) ∷ []) fit.IsFree anything
 bare_chosen_rule stands_for word_of is back =
     bare_rule (λ f. chosen stands_for (word_in f)) (λ x. form.Word (word_of x)) fit.IsFree refl (chosen_is stands_for word_of is) (λ f x sound e. tt) (λ x free. back x)
 
@@ -229,7 +243,7 @@ direction_back direction.Input = refl
 direction_back direction.Output = refl
 direction_back direction.Inout = refl
 
--- a direction, with its place
+-- a direction, with its location
 pub direction_rule : Rule (token stands.direction_in) (λ z. spell.placed_word z.1 (words.direction_word z.0) ∷ []) fit.IsFree anything
 direction_rule = chosen_rule stands.direction_of words.direction_word direction_named direction_back
 
@@ -256,7 +270,7 @@ net_type_back net_type.Tri1 = refl
 net_type_back net_type.Supply0 = refl
 net_type_back net_type.Supply1 = refl
 
--- a type of nets, with its place
+-- a type of nets, with its location
 pub net_type_rule : Rule (token stands.net_type_in) (λ z. spell.placed_word z.1 (words.net_type_word z.0) ∷ []) fit.IsFree anything
 net_type_rule = chosen_rule stands.net_type_of words.net_type_word net_type_named net_type_back
 
@@ -265,23 +279,23 @@ pub bare_net_type_rule : Rule ((λ z. z.0) <$> token stands.net_type_in) (λ x. 
 bare_net_type_rule = bare_chosen_rule stands.net_type_of words.net_type_word net_type_named net_type_back
 
 -- the word of what a word stands for
-pub spread_named : (word : List ℕ) (x : SpreadWord) → stands.spread_of word ≡ Some x → word ≡ words.spread_word x
-unfolding stands.spread_of stands.spread_table
-spread_named word x e = named_is words.spread_word stands.spread_table word x e (refl, (refl, tt))
+pub vector_word_named : (word : List ℕ) (x : VectorWord) → stands.vector_word_of word ≡ Some x → word ≡ words.vector_word x
+unfolding stands.vector_word_of stands.vector_word_table
+vector_word_named word x e = named_is words.vector_word stands.vector_word_table word x e (refl, (refl, tt))
 
 -- each one's word stands for it
-pub spread_back : (x : SpreadWord) → stands.spread_of (words.spread_word x) ≡ Some x
-unfolding stands.spread_of stands.spread_table
-spread_back spread.Vectored = refl
-spread_back spread.Scalared = refl
+pub vector_word_back : (x : VectorWord) → stands.vector_word_of (words.vector_word x) ≡ Some x
+unfolding stands.vector_word_of stands.vector_word_table
+vector_word_back vector.Vectored = refl
+vector_word_back vector.Scalared = refl
 
--- a word before a range, with its place
-pub spread_rule : Rule (token stands.spread_in) (λ z. spell.placed_word z.1 (words.spread_word z.0) ∷ []) fit.IsFree anything
-spread_rule = chosen_rule stands.spread_of words.spread_word spread_named spread_back
+-- a word before a range, with its location
+pub vector_word_rule : Rule (token stands.vector_word_in) (λ z. spell.placed_word z.1 (words.vector_word z.0) ∷ []) fit.IsFree anything
+vector_word_rule = chosen_rule stands.vector_word_of words.vector_word vector_word_named vector_word_back
 
 -- a word before a range
-pub bare_spread_rule : Rule ((λ z. z.0) <$> token stands.spread_in) (λ x. spell.word (words.spread_word x) ∷ []) fit.IsFree anything
-bare_spread_rule = bare_chosen_rule stands.spread_of words.spread_word spread_named spread_back
+pub bare_vector_word_rule : Rule ((λ z. z.0) <$> token stands.vector_word_in) (λ x. spell.word (words.vector_word x) ∷ []) fit.IsFree anything
+bare_vector_word_rule = bare_chosen_rule stands.vector_word_of words.vector_word vector_word_named vector_word_back
 
 -- the word of what a word stands for
 pub charge_named : (word : List ℕ) (x : Charge) → stands.charge_of word ≡ Some x → word ≡ words.charge_word x
@@ -295,7 +309,7 @@ charge_back charge.Small = refl
 charge_back charge.Medium = refl
 charge_back charge.Large = refl
 
--- a word for a charge, with its place
+-- a word for a charge, with its location
 pub charge_rule : Rule (token stands.charge_in) (λ z. spell.placed_word z.1 (words.charge_word z.0) ∷ []) fit.IsFree anything
 charge_rule = chosen_rule stands.charge_of words.charge_word charge_named charge_back
 
@@ -324,7 +338,7 @@ logic_back logic.Bufif1 = refl
 logic_back logic.Notif0 = refl
 logic_back logic.Notif1 = refl
 
--- a logic gate, with its place
+-- a logic gate, with its location
 pub logic_rule : Rule (token stands.logic_in) (λ z. spell.placed_word z.1 (words.logic_word z.0) ∷ []) fit.IsFree anything
 logic_rule = chosen_rule stands.logic_of words.logic_word logic_named logic_back
 
@@ -351,7 +365,7 @@ switch_back switch.Tranif1 = refl
 switch_back switch.Rtranif0 = refl
 switch_back switch.Rtranif1 = refl
 
--- a switch, with its place
+-- a switch, with its location
 pub switch_rule : Rule (token stands.switch_in) (λ z. spell.placed_word z.1 (words.switch_word z.0) ∷ []) fit.IsFree anything
 switch_rule = chosen_rule stands.switch_of words.switch_word switch_named switch_back
 
@@ -370,7 +384,7 @@ unfolding stands.tran_of stands.tran_table
 tran_back tran.Tran = refl
 tran_back tran.Rtran = refl
 
--- a pass gate, with its place
+-- a pass gate, with its location
 pub tran_rule : Rule (token stands.tran_in) (λ z. spell.placed_word z.1 (words.tran_word z.0) ∷ []) fit.IsFree anything
 tran_rule = chosen_rule stands.tran_of words.tran_word tran_named tran_back
 
@@ -389,7 +403,7 @@ unfolding stands.pull_of stands.pull_table
 pull_back pull.Pullup = refl
 pull_back pull.Pulldown = refl
 
--- a pull gate, with its place
+-- a pull gate, with its location
 pub pull_rule : Rule (token stands.pull_in) (λ z. spell.placed_word z.1 (words.pull_word z.0) ∷ []) fit.IsFree anything
 pull_rule = chosen_rule stands.pull_of words.pull_word pull_named pull_back
 
@@ -408,7 +422,7 @@ unfolding stands.opening_of stands.opening_table
 opening_back opening.Module = refl
 opening_back opening.Macromodule = refl
 
--- a word that opens a module, with its place
+-- a word that opens a module, with its location
 pub opening_rule : Rule (token stands.opening_in) (λ z. spell.placed_word z.1 (words.opening_word z.0) ∷ []) fit.IsFree anything
 opening_rule = chosen_rule stands.opening_of words.opening_word opening_named opening_back
 
@@ -439,7 +453,7 @@ strength_back Highz true = refl
 pub level_back : (x : Level) → stands.level_of (words.level_word x) ≡ Some x
 level_back x = strength_back x.strength x.of_one
 
--- a level, with its place
+-- a level, with its location
 pub level_rule : Rule (token stands.level_in) (λ z. spell.placed_word z.1 (words.level_word z.0) ∷ []) fit.IsFree anything
 level_rule = chosen_rule stands.level_of words.level_word level_named level_back
 

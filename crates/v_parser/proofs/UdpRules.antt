@@ -1,8 +1,8 @@
 -- Rules of user-defined primitives.
 use Rattle.std.proofs.Common.{◌≡◌, ℕ, ◌<◌, Bool, true, false, not, ◌&&◌, List, [], ◌∷◌, ◌++◌, length, Option, Some, None, codes, ◌⊎◌, inl, inr, refl, sym, ap, subst, arith}
 use Rattle.v_lexer.specs.declared.values.Literal.{Literal}
-use Rattle.v_tree.specs.declared.places.Place.{Place}
-use Rattle.v_tree.specs.declared.places.Name.{Name}
+use Rattle.v_tree.specs.declared.locations.Location.{Location}
+use Rattle.v_tree.specs.declared.locations.Name.{Name}
 use Rattle.v_tree.specs.declared.primitives.Lit.{Lit}
 use Rattle.v_tree.specs.declared.primitives.Lit.TheVariants as literal
 use Rattle.v_tree.specs.declared.primitives.UdpInput.{UdpInput}
@@ -62,17 +62,17 @@ flag_rule bytes seen =
     refit_rule (respell_rule (map_rule (optional_rule (sees_word bytes) (skip_word_rule bytes) (λ x ws f. seen ws)) read.is_there flag_part flag_there flag_back) (λ x f. flag_spelled bytes x))
     (λ x f. tt) (λ x f. flag_free x)
 
-abbrev make_number : ℕ × Place → Lit
+abbrev make_number : ℕ × Location → Lit
 make_number z = literal.Number z.1 z.0
 
-abbrev make_based : Literal × Place → Lit
+abbrev make_based : Literal × Location → Lit
 make_based z = literal.Based z.1 z.0
 
 abbrev IsNumberLit : Lit → Type 0
-IsNumberLit x = (z : ℕ × Place) × (x ≡ make_number z) × fit.IsNumber z.0
+IsNumberLit x = (z : ℕ × Location) × (x ≡ make_number z) × fit.IsNumber z.0
 
 abbrev IsBasedLit : Lit → Type 0
-IsBasedLit x = (z : Literal × Place) × (x ≡ make_based z) × fit.IsLiteral z.0
+IsBasedLit x = (z : Literal × Location) × (x ≡ make_based z) × fit.IsLiteral z.0
 
 -- a literal that was read fits
 lit_fits : (x : Lit) → IsNumberLit x ⊎ IsBasedLit x → fit.IsFitLit x
@@ -81,8 +81,8 @@ lit_fits x (inr f) = subst fit.IsFitLit (sym f.1) f.2
 
 -- a literal that fits is a number or a based number
 lit_from : (x : Lit) → fit.IsFitLit x → IsNumberLit x ⊎ IsBasedLit x
-lit_from (literal.Number place n) f = inl ((n, place), refl, f)
-lit_from (literal.Based place based) f = inr ((based, place), refl, f)
+lit_from (literal.Number location n) f = inl ((n, location), refl, f)
+lit_from (literal.Based location based) f = inr ((based, location), refl, f)
 
 -- a literal
 lit_rule : Rule read.lit spell.lit fit.IsFitLit anything
@@ -204,21 +204,21 @@ header_rule =
 
 -- a declaration that fits, of one kind
 abbrev IsOutput : UdpItem → Type 0
-IsOutput (item.Output place is_reg output value) = fit.IsFitName output × fit.IsFitIfThere fit.IsFitLit value
+IsOutput (item.Output location is_reg output value) = fit.IsFitName output × fit.IsFitIfThere fit.IsFitLit value
 IsOutput x = ⊥
 
 abbrev IsInput : UdpItem → Type 0
-IsInput (item.Input place names) = fit.AreSome fit.IsFitName names
+IsInput (item.Input location names) = fit.AreSome fit.IsFitName names
 IsInput x = ⊥
 
 abbrev IsReg : UdpItem → Type 0
-IsReg (item.Reg place n) = fit.IsFitName n
+IsReg (item.Reg location n) = fit.IsFitName n
 IsReg x = ⊥
 
 -- an output
 output_from : (x : UdpItem) → IsOutput x
-    → (z : Place × (Bool × (Name × (Option Lit × Unit {0})))) × (x ≡ read.output_of z) × (Unit {0} × (Unit {0} × (fit.IsFitName z.1.1.0 × (fit.IsFitIfThere fit.IsFitLit z.1.1.1.0 × Unit {0}))))
-output_from (item.Output place is_reg output value) f = ((place, (is_reg, (output, (value, tt)))), refl, (tt, (tt, (f.0, (f.1, tt)))))
+    → (z : Location × (Bool × (Name × (Option Lit × Unit {0})))) × (x ≡ read.output_of z) × (Unit {0} × (Unit {0} × (fit.IsFitName z.1.1.0 × (fit.IsFitIfThere fit.IsFitLit z.1.1.1.0 × Unit {0}))))
+output_from (item.Output location is_reg output value) f = ((location, (is_reg, (output, (value, tt)))), refl, (tt, (tt, (f.0, (f.1, tt)))))
 output_from x f = absurd f
 
 -- `output [ reg ] Name [ = lit ] ;`
@@ -237,8 +237,8 @@ output_item_rule =
     (λ x f. subst IsOutput (sym f.1) (f.2.1.1.0, f.2.1.1.1.0)) output_from
 
 -- inputs
-input_from : (x : UdpItem) → IsInput x → (z : Place × (List Name × Unit {0})) × (x ≡ read.inputs_of z) × (Unit {0} × (fit.AreSome fit.IsFitName z.1.0 × Unit {0}))
-input_from (item.Input place names) f = ((place, (names, tt)), refl, (tt, (f, tt)))
+input_from : (x : UdpItem) → IsInput x → (z : Location × (List Name × Unit {0})) × (x ≡ read.inputs_of z) × (Unit {0} × (fit.AreSome fit.IsFitName z.1.0 × Unit {0}))
+input_from (item.Input location names) f = ((location, (names, tt)), refl, (tt, (f, tt)))
 input_from x f = absurd f
 
 -- `input Name , .. ;`
@@ -253,8 +253,8 @@ input_item_rule =
     (λ x f. subst IsInput (sym f.1) f.2.1.0) input_from
 
 -- a register
-reg_from : (x : UdpItem) → IsReg x → (z : Place × (Name × Unit {0})) × (x ≡ read.reg_of z) × (Unit {0} × (fit.IsFitName z.1.0 × Unit {0}))
-reg_from (item.Reg place n) f = ((place, (n, tt)), refl, (tt, (f, tt)))
+reg_from : (x : UdpItem) → IsReg x → (z : Location × (Name × Unit {0})) × (x ≡ read.reg_of z) × (Unit {0} × (fit.IsFitName z.1.0 × Unit {0}))
+reg_from (item.Reg location n) f = ((location, (n, tt)), refl, (tt, (f, tt)))
 reg_from x f = absurd f
 
 -- `reg Name ;`
@@ -266,23 +266,23 @@ reg_item_rule =
 
 -- inputs are seen by their word
 input_seen : (x : UdpItem) (ws : List Written) → IsInput x → begins (sees_word (codes "input")) (spell.udp_decl x ++ ws) ≡ true
-input_seen (item.Input place names) ws f = refl
+input_seen (item.Input location names) ws f = refl
 input_seen x ws f = absurd f
 
 -- a register isn't seen as inputs
 reg_seen : (x : UdpItem) (ws : List Written) → IsReg x → begins (sees_word (codes "input")) (spell.udp_decl x ++ ws) ≡ false
-reg_seen (item.Reg place n) ws f = refl
+reg_seen (item.Reg location n) ws f = refl
 reg_seen x ws f = absurd f
 
 -- an output is seen by its word
 output_seen : (x : UdpItem) (ws : List Written) → IsOutput x → begins (sees_word (codes "output")) (spell.udp_decl x ++ ws) ≡ true
-output_seen (item.Output place is_reg output value) ws f = refl
+output_seen (item.Output location is_reg output value) ws f = refl
 output_seen x ws f = absurd f
 
 -- inputs and a register aren't seen as an output
 other_seen : (x : UdpItem) (ws : List Written) → IsInput x ⊎ IsReg x → begins (sees_word (codes "output")) (spell.udp_decl x ++ ws) ≡ false
-other_seen (item.Input place names) ws (inl f) = refl
-other_seen (item.Reg place n) ws (inr f) = refl
+other_seen (item.Input location names) ws (inl f) = refl
+other_seen (item.Reg location n) ws (inr f) = refl
 other_seen x ws (inl f) = absurd f
 other_seen x ws (inr f) = absurd f
 
@@ -293,18 +293,18 @@ other_item_rule = choice_rule (sees_word (codes "input")) input_item_rule reg_it
 
 -- a declaration that was read fits
 item_fits : (x : UdpItem) → IsOutput x ⊎ (IsInput x ⊎ IsReg x) → fit.IsFitUdpItem x
-item_fits (item.Output place is_reg output value) (inl f) = f
-item_fits (item.Input place names) (inr (inl f)) = f
-item_fits (item.Reg place n) (inr (inr f)) = f
+item_fits (item.Output location is_reg output value) (inl f) = f
+item_fits (item.Input location names) (inr (inl f)) = f
+item_fits (item.Reg location n) (inr (inr f)) = f
 item_fits x (inl f) = absurd f
 item_fits x (inr (inl f)) = absurd f
 item_fits x (inr (inr f)) = absurd f
 
 -- a declaration that fits is of one of three kinds
 item_from : (x : UdpItem) → fit.IsFitUdpItem x → IsOutput x ⊎ (IsInput x ⊎ IsReg x)
-item_from (item.Output place is_reg output value) f = inl f
-item_from (item.Input place names) f = inr (inl f)
-item_from (item.Reg place n) f = inr (inr f)
+item_from (item.Output location is_reg output value) f = inl f
+item_from (item.Input location names) f = inr (inl f)
+item_from (item.Reg location n) f = inr (inr f)
 
 -- a declaration
 udp_item_rule : Rule read.udp_item spell.udp_decl fit.IsFitUdpItem anything
@@ -315,18 +315,18 @@ udp_item_rule =
 
 -- a declaration is written with something
 item_some : (x : UdpItem) → 0 < length (spell.udp_decl x)
-item_some (item.Output place is_reg output value) = omega arith
-item_some (item.Input place names) = omega arith
-item_some (item.Reg place n) = omega arith
+item_some (item.Output location is_reg output value) = omega arith
+item_some (item.Input location names) = omega arith
+item_some (item.Reg location n) = omega arith
 
 -- a declaration begins with one of its words
 item_begins : (x : UdpItem) (ws : List Written) → ends_items (first_form (spell.udp_decl x ++ ws)) ≡ false
-item_begins (item.Output place is_reg output value) ws = refl
-item_begins (item.Input place names) ws = refl
-item_begins (item.Reg place n) ws = refl
+item_begins (item.Output location is_reg output value) ws = refl
+item_begins (item.Input location names) ws = refl
+item_begins (item.Reg location n) ws = refl
 
-abbrev initial_parts : UdpInitial → Place × (Name × (Unit {0} × (Lit × Unit {0})))
-initial_parts i = (i.place, (i.name, (tt, (i.value, tt))))
+abbrev initial_parts : UdpInitial → Location × (Name × (Unit {0} × (Lit × Unit {0})))
+initial_parts i = (i.location, (i.name, (tt, (i.value, tt))))
 
 -- `initial Name = lit ;`
 initial_rule : Rule read.initial spell.udp_initial fit.IsFitUdpInitial anything
@@ -387,8 +387,8 @@ body_rule =
     read.body_of body_parts (λ b. refl) (λ a. refl))
     (λ x f. (f.0, f.1.0, f.1.1.0)) (λ x f. (f.0, (f.1, (f.2, tt))))
 
-abbrev udp_parts : UdpDecl → Place × (Name × (UdpPorts × (Unit {0} × (List UdpItem × Option UdpInitial × List PlacedRow))))
-udp_parts u = (u.place, (u.name, (u.ports, (tt, (u.items, u.initial, u.rows)))))
+abbrev udp_parts : UdpDecl → Location × (Name × (UdpPorts × (Unit {0} × (List UdpItem × Option UdpInitial × List PlacedRow))))
+udp_parts u = (u.location, (u.name, (u.ports, (tt, (u.items, u.initial, u.rows)))))
 
 -- `primitive Name ( ports ) ;` and the body
 pub udp_rule : Rule read.udp spell.udp fit.IsFitUdp anything

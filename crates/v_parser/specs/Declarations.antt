@@ -1,17 +1,17 @@
 -- Declarations and assignments.
 use Rattle.std.specs.Prelude.{Bool, ◌||◌, List, Option, codes}
-use Rattle.v_tree.specs.declared.places.Place.{Place}
-use Rattle.v_tree.specs.declared.places.Name.{Name}
+use Rattle.v_tree.specs.declared.locations.Location.{Location}
+use Rattle.v_tree.specs.declared.locations.Name.{Name}
 use Rattle.v_tree.specs.declared.expressions.Range.{Range}
 use Rattle.v_tree.specs.declared.expressions.Expr.{Expr}
 use Rattle.v_tree.specs.declared.expressions.Target.{Target}
-use Rattle.v_tree.specs.declared.drives.Drive.{Drive}
+use Rattle.v_tree.specs.declared.drives.DriveStrength.{DriveStrength}
 use Rattle.v_tree.specs.declared.drives.Charge.{Charge}
 use Rattle.v_tree.specs.declared.drives.DelaySpec.{DelaySpec}
 use Rattle.v_tree.specs.declared.declarations.Direction.{Direction}
 use Rattle.v_tree.specs.declared.declarations.NetType.{NetType}
-use Rattle.v_tree.specs.declared.declarations.SpreadWord.{SpreadWord}
-use Rattle.v_tree.specs.declared.declarations.Spread.{Spread}
+use Rattle.v_tree.specs.declared.declarations.VectorWord.{VectorWord}
+use Rattle.v_tree.specs.declared.declarations.VectorRange.{VectorRange}
 use Rattle.v_tree.specs.declared.declarations.PortDecl.{PortDecl}
 use Rattle.v_tree.specs.declared.declarations.ValuedName.{ValuedName}
 use Rattle.v_tree.specs.declared.declarations.Declared.{Declared}
@@ -23,7 +23,7 @@ use Rattle.v_tree.specs.declared.declarations.AssignItem.{AssignItem}
 use Rattle.v_tree.specs.Written.{Form}
 use Rattle.v_parser.specs.Input.{Reader, ◌<$>◌, ◌&◌, token, skip, word, name, is_mark, optional, choice, separated}
 use Rattle.v_parser.specs.Expressions.{sees_mark, range, expr_at, target_at}
-use Rattle.v_parser.specs.Words.{direction_in, net_type_in, sees_net_type, spread_in, sees_spread}
+use Rattle.v_parser.specs.Words.{direction_in, net_type_in, sees_net_type, vector_word_in, sees_vector_word}
 use Rattle.v_parser.specs.Drives.{drive, charge, delay_spec}
 
 -- an expression of the grammar: its concatenations stand at most 64 deep
@@ -34,31 +34,31 @@ expr = expr_at 64
 unfoldable pub target : Reader Target
 target = target_at 64
 
--- a type of nets, without its place
+-- a type of nets, without its location
 unfoldable pub net_type : Reader NetType
 net_type = (λ z. z.0) <$> token net_type_in
 
--- a word before a range, without its place
-unfoldable pub spread_named : Reader SpreadWord
-spread_named = (λ z. z.0) <$> token spread_in
+-- a word before a range, without its location
+unfoldable pub vector_word_named : Reader VectorWord
+vector_word_named = (λ z. z.0) <$> token vector_word_in
 
-abbrev pub port_decl_of : (Direction × Place) × (Option NetType × (Option Range × (List Name × Unit {0}))) → PortDecl
-port_decl_of z = record { place = z.0.1; direction = z.0.0; net_type = z.1.0; range = z.1.1.0; names = z.1.1.1.0 }
+abbrev pub port_decl_of : (Direction × Location) × (Option NetType × (Option Range × (List Name × Unit {0}))) → PortDecl
+port_decl_of z = record { location = z.0.1; direction = z.0.0; net_type = z.1.0; range = z.1.1.0; names = z.1.1.1.0 }
 
 -- `dir [ nettype ] [ range ] Name , .. ;`
 unfoldable pub port_decl : Reader PortDecl
 port_decl = port_decl_of <$> (token direction_in & optional sees_net_type net_type & optional (sees_mark 91) range & separated name & skip 59)
 
-abbrev pub spread_of : Option SpreadWord × Range → Spread
-spread_of z = record { word = z.0; range = z.1 }
+abbrev pub vector_range_of : Option VectorWord × Range → VectorRange
+vector_range_of z = record { word = z.0; range = z.1 }
 
 -- a range, with a word before it or without one
-unfoldable pub spread : Reader Spread
-spread = spread_of <$> (optional sees_spread spread_named & range)
+unfoldable pub vector_range : Reader VectorRange
+vector_range = vector_range_of <$> (optional sees_vector_word vector_word_named & range)
 
 -- a word before a range, or a `[`
-abbrev pub begins_spread : Form → Form → Bool
-begins_spread f g = sees_spread f g || is_mark 91 f
+abbrev pub begins_vector_range : Form → Form → Bool
+begins_vector_range f g = sees_vector_word f g || is_mark 91 f
 
 abbrev pub valued_of : Name × (Unit {0} × Expr) → ValuedName
 valued_of z = record { name = z.0; value = z.1.1 }
@@ -75,19 +75,19 @@ sees_value f g = is_mark 61 g
 unfoldable pub declared : Reader Declared
 declared = choice sees_value (kind.Valued <$> separated valued_name) (kind.Names <$> separated name)
 
-abbrev pub net_decl_of : (NetType × Place) × (Option Drive × (Option Spread × (Option DelaySpec × (Declared × Unit {0})))) → NetDecl
-net_decl_of z = record { place = z.0.1; net_type = z.0.0; drive = z.1.0; spread = z.1.1.0; delay = z.1.1.1.0; declared = z.1.1.1.1.0 }
+abbrev pub net_decl_of : (NetType × Location) × (Option DriveStrength × (Option VectorRange × (Option DelaySpec × (Declared × Unit {0})))) → NetDecl
+net_decl_of z = record { location = z.0.1; net_type = z.0.0; drive = z.1.0; vector_range = z.1.1.0; delay = z.1.1.1.0; declared = z.1.1.1.1.0 }
 
--- `nettype [ drive ] [ spread ] [ delay ] declared ;`
+-- `nettype [ drive ] [ vector_range ] [ delay ] declared ;`
 unfoldable pub net_decl : Reader NetDecl
-net_decl = net_decl_of <$> (token net_type_in & optional (sees_mark 40) drive & optional begins_spread spread & optional (sees_mark 35) delay_spec & declared & skip 59)
+net_decl = net_decl_of <$> (token net_type_in & optional (sees_mark 40) drive & optional begins_vector_range vector_range & optional (sees_mark 35) delay_spec & declared & skip 59)
 
-abbrev pub trireg_of : Place × (Option Charge × (Option Spread × (Option DelaySpec × (List Name × Unit {0})))) → TriregDecl
-trireg_of z = record { place = z.0; charge = z.1.0; spread = z.1.1.0; delay = z.1.1.1.0; names = z.1.1.1.1.0 }
+abbrev pub trireg_of : Location × (Option Charge × (Option VectorRange × (Option DelaySpec × (List Name × Unit {0})))) → TriregDecl
+trireg_of z = record { location = z.0; charge = z.1.0; vector_range = z.1.1.0; delay = z.1.1.1.0; names = z.1.1.1.1.0 }
 
--- `trireg [ charge ] [ spread ] [ delay ] Name , .. ;`
+-- `trireg [ charge ] [ vector_range ] [ delay ] Name , .. ;`
 unfoldable pub trireg_decl : Reader TriregDecl
-trireg_decl = trireg_of <$> (word (codes "trireg") & optional (sees_mark 40) charge & optional begins_spread spread & optional (sees_mark 35) delay_spec & separated name & skip 59)
+trireg_decl = trireg_of <$> (word (codes "trireg") & optional (sees_mark 40) charge & optional begins_vector_range vector_range & optional (sees_mark 35) delay_spec & separated name & skip 59)
 
 abbrev pub pair_of : Target × (Unit {0} × Expr) → Pair
 pair_of z = record { target = z.0; value = z.1.1 }
@@ -96,8 +96,8 @@ pair_of z = record { target = z.0; value = z.1.1 }
 unfoldable pub pair : Reader Pair
 pair = pair_of <$> (target & skip 61 & expr)
 
-abbrev pub assign_of : Place × (Option Drive × (Option DelaySpec × (List Pair × Unit {0}))) → AssignItem
-assign_of z = record { place = z.0; drive = z.1.0; delay = z.1.1.0; pairs = z.1.1.1.0 }
+abbrev pub assign_of : Location × (Option DriveStrength × (Option DelaySpec × (List Pair × Unit {0}))) → AssignItem
+assign_of z = record { location = z.0; drive = z.1.0; delay = z.1.1.0; pairs = z.1.1.1.0 }
 
 -- `assign [ drive ] [ delay ] pair , .. ;`
 unfoldable pub assign_item : Reader AssignItem

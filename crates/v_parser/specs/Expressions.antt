@@ -1,7 +1,7 @@
 -- Ranges, selects, expressions and targets.
 use Rattle.std.specs.Prelude.{ℕ, zero, suc, Bool, List, Option}
-use Rattle.v_tree.specs.declared.places.Place.{Place}
-use Rattle.v_tree.specs.declared.places.Name.{Name}
+use Rattle.v_tree.specs.declared.locations.Location.{Location}
+use Rattle.v_tree.specs.declared.locations.Name.{Name}
 use Rattle.v_tree.specs.declared.expressions.Range.{Range}
 use Rattle.v_tree.specs.declared.expressions.Select.{Select}
 use Rattle.v_tree.specs.declared.expressions.Pick.{Pick}
@@ -54,9 +54,9 @@ atom = choice sees_name (expr.Pick <$> pick) (choice sees_number ((λ z. expr.Nu
 -- an expression with concatenations so deep at most
 unfoldable pub expr_at : ℕ → Reader Expr
 expr_at zero = atom
-expr_at (suc depth) = choice (sees_mark 123) ((λ (z : Place × (List Expr × Unit {0})). expr.Concat z.0 z.1.0) <$> (mark 123 & separated (expr_at depth) & skip 125)) atom
+expr_at (suc depth) = choice (sees_mark 123) ((λ (z : Location × (List Expr × Unit {0})). expr.Concat z.0 z.1.0) <$> (mark 123 & separated (expr_at depth) & skip 125)) atom
 
 -- a target with concatenations so deep at most
 unfoldable pub target_at : ℕ → Reader Target
 target_at zero = target.Pick <$> pick
-target_at (suc depth) = choice (sees_mark 123) ((λ (z : Place × (List Target × Unit {0})). target.Concat z.0 z.1.0) <$> (mark 123 & separated (target_at depth) & skip 125)) (target.Pick <$> pick)
+target_at (suc depth) = choice (sees_mark 123) ((λ (z : Location × (List Target × Unit {0})). target.Concat z.0 z.1.0) <$> (mark 123 & separated (target_at depth) & skip 125)) (target.Pick <$> pick)

@@ -1,9 +1,9 @@
 -- Gates, switches and instances.
 use Rattle.std.specs.Prelude.{Bool, ◌||◌, List, Option}
-use Rattle.v_tree.specs.declared.places.Place.{Place}
-use Rattle.v_tree.specs.declared.places.Name.{Name}
+use Rattle.v_tree.specs.declared.locations.Location.{Location}
+use Rattle.v_tree.specs.declared.locations.Name.{Name}
 use Rattle.v_tree.specs.declared.expressions.Expr.{Expr}
-use Rattle.v_tree.specs.declared.drives.Drive.{Drive}
+use Rattle.v_tree.specs.declared.drives.DriveStrength.{DriveStrength}
 use Rattle.v_tree.specs.declared.drives.PullLevels.{PullLevels}
 use Rattle.v_tree.specs.declared.drives.DelaySpec.{DelaySpec}
 use Rattle.v_tree.specs.declared.gates.LogicGate.{LogicGate}
@@ -26,42 +26,42 @@ use Rattle.v_parser.specs.Words.{logic_in, switch_in, tran_in, pull_in}
 use Rattle.v_parser.specs.Drives.{drive, sees_drive, pull_levels, delay_spec}
 use Rattle.v_parser.specs.Declarations.{expr}
 
-abbrev pub terms_of : Option Name × (Place × (List Expr × Unit {0})) → Terms
+abbrev pub terms_of : Option Name × (Location × (List Expr × Unit {0})) → Terms
 terms_of z = record { name = z.0; paren = z.1.0; terminals = z.1.1.0 }
 
 -- `[ Name ] ( expr , .. )`
 unfoldable pub terms : Reader Terms
 terms = terms_of <$> (optional sees_name name & mark 40 & separated expr & skip 41)
 
-abbrev pub gates_of : Place → GateKind → List Terms → GateItem
-gates_of place kind gates = record { place = place; kind = kind; gates = gates }
+abbrev pub gates_of : Location → GateKind → List Terms → GateItem
+gates_of location kind gates = record { location = location; kind = kind; gates = gates }
 
 -- `logic [ drive ] [ delay ] terms , .. ;`
 unfoldable pub logic_item : Reader GateItem
-logic_item = (λ (z : (LogicGate × Place) × (Option Drive × (Option DelaySpec × (List Terms × Unit {0})))). gates_of z.0.1 (kind.Logic z.0.0 z.1.0 z.1.1.0) z.1.1.1.0)
+logic_item = (λ (z : (LogicGate × Location) × (Option DriveStrength × (Option DelaySpec × (List Terms × Unit {0})))). gates_of z.0.1 (kind.Logic z.0.0 z.1.0 z.1.1.0) z.1.1.1.0)
     <$> (token logic_in & optional sees_drive drive & optional (sees_mark 35) delay_spec & separated terms & skip 59)
 
 -- `switch [ delay ] terms , .. ;`
 unfoldable pub switch_item : Reader GateItem
-switch_item = (λ (z : (Switch × Place) × (Option DelaySpec × (List Terms × Unit {0}))). gates_of z.0.1 (kind.Switch z.0.0 z.1.0) z.1.1.0)
+switch_item = (λ (z : (Switch × Location) × (Option DelaySpec × (List Terms × Unit {0}))). gates_of z.0.1 (kind.Switch z.0.0 z.1.0) z.1.1.0)
     <$> (token switch_in & optional (sees_mark 35) delay_spec & separated terms & skip 59)
 
 -- `tran terms , .. ;`
 unfoldable pub tran_item : Reader GateItem
-tran_item = (λ (z : (TranGate × Place) × (List Terms × Unit {0})). gates_of z.0.1 (kind.Tran z.0.0) z.1.0)
+tran_item = (λ (z : (TranGate × Location) × (List Terms × Unit {0})). gates_of z.0.1 (kind.Tran z.0.0) z.1.0)
     <$> (token tran_in & separated terms & skip 59)
 
 -- `pull [ ( level [ , level ] ) ] terms , .. ;`
 unfoldable pub pull_item : Reader GateItem
-pull_item = (λ (z : (PullGate × Place) × (Option PullLevels × (List Terms × Unit {0}))). gates_of z.0.1 (kind.Pull z.0.0 z.1.0) z.1.1.0)
+pull_item = (λ (z : (PullGate × Location) × (Option PullLevels × (List Terms × Unit {0}))). gates_of z.0.1 (kind.Pull z.0.0 z.1.0) z.1.1.0)
     <$> (token pull_in & optional sees_drive pull_levels & separated terms & skip 59)
 
 -- the first token of an expression
 abbrev pub begins_expr : Form → Form → Bool
 begins_expr f g = is_name f || is_number f || is_based f || is_mark 123 f
 
-abbrev pub connection_of : Place × (Name × (Unit {0} × (Option Expr × Unit {0}))) → Connection
-connection_of z = record { place = z.0; port = z.1.0; value = z.1.1.1.0 }
+abbrev pub connection_of : Location × (Name × (Unit {0} × (Option Expr × Unit {0}))) → Connection
+connection_of z = record { location = z.0; port = z.1.0; value = z.1.1.1.0 }
 
 -- `. Name ( [ expr ] )`
 unfoldable pub connection : Reader Connection
@@ -71,14 +71,14 @@ connection = connection_of <$> (mark 46 & name & skip 40 & optional begins_expr 
 unfoldable pub connections : Reader Connections
 connections = choice (sees_mark 46) (ByName <$> separated connection) (ByPlace <$> separated (optional begins_expr expr))
 
-abbrev pub inst_of : Option Name × (Place × (Connections × Unit {0})) → Inst
+abbrev pub inst_of : Option Name × (Location × (Connections × Unit {0})) → Inst
 inst_of z = record { name = z.0; paren = z.1.0; connections = z.1.1.0 }
 
 -- `[ Name ] ( connections )`
 unfoldable pub inst : Reader Inst
 inst = inst_of <$> (optional sees_name name & mark 40 & connections & skip 41)
 
-abbrev pub instance_of : Name × (Option Drive × (Option DelaySpec × (List Inst × Unit {0}))) → Instance
+abbrev pub instance_of : Name × (Option DriveStrength × (Option DelaySpec × (List Inst × Unit {0}))) → Instance
 instance_of z = record { name = z.0; drive = z.1.0; delay = z.1.1.0; instances = z.1.1.1.0 }
 
 -- `Name [ drive ] [ delay ] inst , .. ;`

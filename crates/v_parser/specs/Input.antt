@@ -7,8 +7,8 @@ use Rattle.v_lexer.specs.declared.token.TokenKind.{TokenKind}
 use Rattle.v_lexer.specs.declared.token.TokenKind.TheVariants as kind
 use Rattle.v_lexer.specs.declared.values.Literal.{Literal}
 use Rattle.v_lexer.specs.Words.{left_out_words}
-use Rattle.v_tree.specs.declared.places.Place.{Place}
-use Rattle.v_tree.specs.declared.places.Name.{Name}
+use Rattle.v_tree.specs.declared.locations.Location.{Location}
+use Rattle.v_tree.specs.declared.locations.Name.{Name}
 use Rattle.v_tree.specs.Written.{Form, form_of, slice_of}
 use Rattle.v_tree.specs.Written as form
 use Rattle.v_parser.specs.declared.fault.ParseFault.{ParseFault}
@@ -35,8 +35,8 @@ line_in [] = 0
 line_in (token ∷ tokens) = token.line
 
 -- where the next token stands
-unfoldable pub place : Input → Place
-place i = record { line = line_in i.tokens; token = i.number }
+unfoldable pub location : Input → Location
+location i = record { line = line_in i.tokens; token = i.number }
 
 abbrev pub next_in : List ℕ → ℕ → List Token → Input
 next_in text number [] = record { text = text; tokens = []; number = number }
@@ -114,17 +114,17 @@ p & q = p >>= (λ x. (λ y. (x, y)) <$> q)
 abbrev pub refuse : {A : Type 0} → Reader A
 refuse = λ i. Err (refusal i)
 
-abbrev pub token_by : {A : Type 0} → Option A → Reader (A × Place)
+abbrev pub token_by : {A : Type 0} → Option A → Reader (A × Location)
 token_by None = refuse
-token_by (Some x) = λ i. Ok ((x, place i), next i)
+token_by (Some x) = λ i. Ok ((x, location i), next i)
 
--- one token, with what `pick` has for it, and its place
-abbrev pub token : {A : Type 0} → (Form → Option A) → Reader (A × Place)
+-- one token, with what `pick` has for it, and its location
+abbrev pub token : {A : Type 0} → (Form → Option A) → Reader (A × Location)
 token pick = λ i. token_by (pick (front i)) i
 
--- the place of the next token, which isn't taken
-abbrev pub here : Reader Place
-here = λ i. Ok (place i, i)
+-- the location of the next token, which isn't taken
+abbrev pub here : Reader Location
+here = λ i. Ok (location i, i)
 
 -- ---- tokens
 
@@ -133,14 +133,14 @@ name_in (form.Name text) = Some text
 name_in _ = None
 
 unfoldable pub name : Reader Name
-name = (λ p. record { place = p.1; text = p.0 }) <$> token name_in
+name = (λ p. record { location = p.1; text = p.0 }) <$> token name_in
 
 abbrev pub number_in : Form → Option ℕ
 number_in (form.Number n) = Some n
 number_in _ = None
 
--- a number, with its place
-unfoldable pub placed_number : Reader (ℕ × Place)
+-- a number, with its location
+unfoldable pub placed_number : Reader (ℕ × Location)
 placed_number = token number_in
 
 unfoldable pub number : Reader ℕ
@@ -150,8 +150,8 @@ abbrev pub based_in : Form → Option Literal
 based_in (form.Based literal) = Some literal
 based_in _ = None
 
--- a based number, with its place
-unfoldable pub placed_based : Reader (Literal × Place)
+-- a based number, with its location
+unfoldable pub placed_based : Reader (Literal × Location)
 placed_based = token based_in
 
 abbrev pub is_name : Form → Bool
@@ -192,11 +192,20 @@ abbrev pub word_in : Form → Option (List ℕ)
 word_in (form.Word w) = Some w
 word_in _ = None
 
+-- a directive, with its backquote
+abbrev pub directive_in : Form → Option (List ℕ)
+directive_in (form.Directive d) = Some d
+directive_in _ = None
+
+abbrev pub is_directive : List ℕ → Form → Bool
+is_directive bytes (form.Directive d) = bytes_eq d bytes
+is_directive bytes _ = false
+
 abbrev pub where_true : Bool → Option (Unit {0})
 where_true b = if b then Some tt else None
 
--- a mark, with its place
-unfoldable pub mark : ℕ → Reader Place
+-- a mark, with its location
+unfoldable pub mark : ℕ → Reader Location
 mark byte = (λ p. p.1) <$> token (λ f. where_true (is_mark byte f))
 
 -- a mark
@@ -207,13 +216,17 @@ skip byte = (λ p. p.0) <$> token (λ f. where_true (is_mark byte f))
 unfoldable pub skip_symbol : ℕ → Reader (Unit {0})
 skip_symbol byte = (λ p. p.0) <$> token (λ f. where_true (is_symbol byte f))
 
--- a word, with its place
-unfoldable pub word : List ℕ → Reader Place
+-- a word, with its location
+unfoldable pub word : List ℕ → Reader Location
 word bytes = (λ p. p.1) <$> token (λ f. where_true (is_word bytes f))
 
 -- a word
 unfoldable pub skip_word : List ℕ → Reader (Unit {0})
 skip_word bytes = (λ p. p.0) <$> token (λ f. where_true (is_word bytes f))
+
+-- a directive, with its location
+unfoldable pub directive_word : List ℕ → Reader Location
+directive_word bytes = (λ p. p.1) <$> token (λ f. where_true (is_directive bytes f))
 
 -- the end of the text
 unfoldable pub finish : Reader (Unit {0})

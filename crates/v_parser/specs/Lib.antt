@@ -5,6 +5,8 @@ pub mod Expressions
 pub mod Drives
 pub mod Declarations
 pub mod Gates
+pub mod Directives
+pub mod Blocks
 pub mod Modules
 pub mod Primitives
 pub mod Descriptions

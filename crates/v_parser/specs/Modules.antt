@@ -1,7 +1,7 @@
 -- Modules and files.
 use Rattle.std.specs.Prelude.{ℕ, Bool, List, [], Option, codes}
-use Rattle.v_tree.specs.declared.places.Place.{Place}
-use Rattle.v_tree.specs.declared.places.Name.{Name}
+use Rattle.v_tree.specs.declared.locations.Location.{Location}
+use Rattle.v_tree.specs.declared.locations.Name.{Name}
 use Rattle.v_tree.specs.declared.expressions.Range.{Range}
 use Rattle.v_tree.specs.declared.declarations.Direction.{Direction}
 use Rattle.v_tree.specs.declared.declarations.NetType.{NetType}
@@ -19,14 +19,24 @@ use Rattle.v_parser.specs.Input.{Reader, ◌<$>◌, ◌&◌, pure, token, skip, 
 use Rattle.v_parser.specs.Expressions.{sees_mark, sees_name, range}
 use Rattle.v_parser.specs.Words.{direction_in, sees_direction, sees_net_type, opening_in, sees_logic, sees_switch, sees_tran, sees_pull}
 use Rattle.v_parser.specs.Declarations.{net_type, port_decl, net_decl, trireg_decl, assign_item}
+use Rattle.v_parser.specs.Directives.{sees_some_directive, cell}
+use Rattle.v_parser.specs.Blocks.{specify_block}
 use Rattle.v_parser.specs.Gates.{logic_item, switch_item, tran_item, pull_item, instance}
 
 abbrev pub sees_word : List ℕ → Form → Form → Bool
 sees_word bytes f g = is_word bytes f
 
+-- blocks that are passed over, or instances
+unfoldable pub blocks : Reader Item
+blocks = choice (sees_word (codes "specify")) (item.Specify <$> specify_block) (item.Instances <$> instance)
+
+-- cells, or what comes later
+unfoldable pub cells : Reader Item
+cells = choice sees_some_directive (item.Cell <$> cell) blocks
+
 -- gates of a kind
 unfoldable pub pulls : Reader Item
-pulls = choice sees_pull (item.Gates <$> pull_item) (item.Instances <$> instance)
+pulls = choice sees_pull (item.Gates <$> pull_item) cells
 
 unfoldable pub trans : Reader Item
 trans = choice sees_tran (item.Gates <$> tran_item) pulls
@@ -51,8 +61,8 @@ nets = choice sees_net_type (item.Nets <$> net_decl) charged
 unfoldable pub module_item : Reader Item
 module_item = choice sees_direction (item.Ports <$> port_decl) nets
 
-abbrev pub ansi_port_of : (Direction × Place) × (Option NetType × (Option Range × Name)) → AnsiPort
-ansi_port_of z = record { place = z.0.1; direction = z.0.0; net_type = z.1.0; range = z.1.1.0; name = z.1.1.1 }
+abbrev pub ansi_port_of : (Direction × Location) × (Option NetType × (Option Range × Name)) → AnsiPort
+ansi_port_of z = record { location = z.0.1; direction = z.0.0; net_type = z.1.0; range = z.1.1.0; name = z.1.1.1 }
 
 -- `dir [ nettype ] [ range ] Name`
 unfoldable pub ansi_port : Reader AnsiPort
@@ -92,8 +102,8 @@ header_ports = choice (sees_mark 40) ports_within (pure ports.Absent)
 abbrev pub ends_module : Form → Bool
 ends_module f = is_word (codes "endmodule") f
 
-abbrev pub module_of : (ModuleWord × Place) × (Name × (Ports × (Unit {0} × (List Item × Unit {0})))) → Module
-module_of z = record { place = z.0.1; word = z.0.0; name = z.1.0; ports = z.1.1.0; items = z.1.1.1.1.0 }
+abbrev pub module_of : (ModuleWord × Location) × (Name × (Ports × (Unit {0} × (List Item × Unit {0})))) → Module
+module_of z = record { location = z.0.1; word = z.0.0; name = z.1.0; ports = z.1.1.0; items = z.1.1.1.1.0 }
 
 -- `module Name [ ports ] ; { item } endmodule`
 unfoldable pub module_at : Reader Module

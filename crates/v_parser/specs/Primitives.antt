@@ -1,7 +1,7 @@
 -- User-defined primitives.
 use Rattle.std.specs.Prelude.{ℕ, Bool, true, false, not, ◌||◌, ◌==◌, if◌then◌else◌, List, [], ◌∷◌, Option, Some, None, codes}
-use Rattle.v_tree.specs.declared.places.Place.{Place}
-use Rattle.v_tree.specs.declared.places.Name.{Name}
+use Rattle.v_tree.specs.declared.locations.Location.{Location}
+use Rattle.v_tree.specs.declared.locations.Name.{Name}
 use Rattle.v_tree.specs.declared.primitives.Lit.{Lit}
 use Rattle.v_tree.specs.declared.primitives.Lit.TheVariants as literal
 use Rattle.v_tree.specs.declared.primitives.UdpInput.{UdpInput}
@@ -101,10 +101,10 @@ row_of z = record { ins = z.0; state = z.1.1.0.0; out = z.1.1.0.1 }
 unfoldable pub row : Reader UdpRow
 row = row_of <$> (some (is_symbol 58) field & skip_symbol 58 & outcome & skip_symbol 59)
 
-abbrev pub placed_row_of : Place × UdpRow → PlacedRow
-placed_row_of z = record { place = z.0; row = z.1 }
+abbrev pub placed_row_of : Location × UdpRow → PlacedRow
+placed_row_of z = record { location = z.0; row = z.1 }
 
--- a row, with the place of its first token
+-- a row, with the location of its first token
 unfoldable pub placed_row : Reader PlacedRow
 placed_row = placed_row_of <$> (here & row)
 
@@ -158,21 +158,21 @@ sees_word_second bytes f g = is_word bytes g
 unfoldable pub header : Reader UdpPorts
 header = choice (sees_word_second (codes "output")) declared_header named_header
 
-abbrev pub output_of : Place × (Bool × (Name × (Option Lit × Unit {0}))) → UdpItem
+abbrev pub output_of : Location × (Bool × (Name × (Option Lit × Unit {0}))) → UdpItem
 output_of z = item.Output z.0 z.1.0 z.1.1.0 z.1.1.1.0
 
 -- `output [ reg ] Name [ = lit ] ;`
 unfoldable pub output_item : Reader UdpItem
 output_item = output_of <$> (word (codes "output") & flag (codes "reg") & name & optional (sees_mark 61) start & skip 59)
 
-abbrev pub inputs_of : Place × (List Name × Unit {0}) → UdpItem
+abbrev pub inputs_of : Location × (List Name × Unit {0}) → UdpItem
 inputs_of z = item.Input z.0 z.1.0
 
 -- `input Name , .. ;`
 unfoldable pub input_item : Reader UdpItem
 input_item = inputs_of <$> (word (codes "input") & separated name & skip 59)
 
-abbrev pub reg_of : Place × (Name × Unit {0}) → UdpItem
+abbrev pub reg_of : Location × (Name × Unit {0}) → UdpItem
 reg_of z = item.Reg z.0 z.1.0
 
 -- `reg Name ;`
@@ -191,8 +191,8 @@ udp_item = choice (sees_word (codes "output")) output_item other_item
 abbrev pub ends_items : Form → Bool
 ends_items f = not (is_word (codes "output") f || (is_word (codes "input") f || is_word (codes "reg") f))
 
-abbrev pub initial_of : Place × (Name × (Unit {0} × (Lit × Unit {0}))) → UdpInitial
-initial_of z = record { place = z.0; name = z.1.0; value = z.1.1.1.0 }
+abbrev pub initial_of : Location × (Name × (Unit {0} × (Lit × Unit {0}))) → UdpInitial
+initial_of z = record { location = z.0; name = z.1.0; value = z.1.1.1.0 }
 
 -- `initial Name = lit ;`
 unfoldable pub initial : Reader UdpInitial
@@ -215,8 +215,8 @@ body_of z = (z.0, z.1.0, z.1.1.0)
 unfoldable pub body : Reader (List UdpItem × Option UdpInitial × List PlacedRow)
 body = body_of <$> (many ends_items udp_item & optional (sees_word (codes "initial")) initial & table & ending)
 
-abbrev pub udp_of : Place × (Name × (UdpPorts × (Unit {0} × (List UdpItem × Option UdpInitial × List PlacedRow)))) → UdpDecl
-udp_of z = record { place = z.0; name = z.1.0; ports = z.1.1.0; items = z.1.1.1.1.0; initial = z.1.1.1.1.1; rows = z.1.1.1.1.2 }
+abbrev pub udp_of : Location × (Name × (UdpPorts × (Unit {0} × (List UdpItem × Option UdpInitial × List PlacedRow)))) → UdpDecl
+udp_of z = record { location = z.0; name = z.1.0; ports = z.1.1.0; items = z.1.1.1.1.0; initial = z.1.1.1.1.1; rows = z.1.1.1.1.2 }
 
 -- `primitive Name ( ports ) ;` and the body
 unfoldable pub udp : Reader UdpDecl

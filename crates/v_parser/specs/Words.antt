@@ -5,8 +5,8 @@ use Rattle.v_tree.specs.declared.declarations.Direction.{Direction}
 use Rattle.v_tree.specs.declared.declarations.Direction.TheVariants as direction
 use Rattle.v_tree.specs.declared.declarations.NetType.{NetType}
 use Rattle.v_tree.specs.declared.declarations.NetType.TheVariants as net_type
-use Rattle.v_tree.specs.declared.declarations.SpreadWord.{SpreadWord}
-use Rattle.v_tree.specs.declared.declarations.SpreadWord.TheVariants as spread
+use Rattle.v_tree.specs.declared.declarations.VectorWord.{VectorWord}
+use Rattle.v_tree.specs.declared.declarations.VectorWord.TheVariants as vector
 use Rattle.v_tree.specs.declared.drives.Charge.{Charge}
 use Rattle.v_tree.specs.declared.drives.Charge.TheVariants as charge
 use Rattle.v_tree.specs.declared.gates.LogicGate.{LogicGate}
@@ -64,18 +64,18 @@ net_type_in f = chosen net_type_of (word_in f)
 abbrev pub sees_net_type : Form → Form → Bool
 sees_net_type f g = is_some (net_type_in f)
 
-unfoldable pub spread_table : List (List ℕ × SpreadWord)
-spread_table = (codes "vectored", spread.Vectored) ∷ (codes "scalared", spread.Scalared) ∷ []
+unfoldable pub vector_word_table : List (List ℕ × VectorWord)
+vector_word_table = (codes "vectored", vector.Vectored) ∷ (codes "scalared", vector.Scalared) ∷ []
 
-unfoldable pub spread_of : List ℕ → Option SpreadWord
-spread_of word = named spread_table word
+unfoldable pub vector_word_of : List ℕ → Option VectorWord
+vector_word_of word = named vector_word_table word
 
-abbrev pub spread_in : Form → Option SpreadWord
-spread_in f = chosen spread_of (word_in f)
+abbrev pub vector_word_in : Form → Option VectorWord
+vector_word_in f = chosen vector_word_of (word_in f)
 
 -- the first of two tokens stands for one
-abbrev pub sees_spread : Form → Form → Bool
-sees_spread f g = is_some (spread_in f)
+abbrev pub sees_vector_word : Form → Form → Bool
+sees_vector_word f g = is_some (vector_word_in f)
 
 unfoldable pub charge_table : List (List ℕ × Charge)
 charge_table = (codes "small", charge.Small) ∷ (codes "medium", charge.Medium) ∷ (codes "large", charge.Large) ∷ []

@@ -1,6 +1,6 @@
 //! A cursor over the tokens of a text.
 
-ghost use Rattle.std.specs.Prelude.{◌≡◌, ◌<◌, IfOk, ◌^◌, length, take, drop, ◌-◌};
+ghost use Rattle.std.specs.Prelude.{◌≡◌, ◌<◌, is_some, IfOk, ◌^◌, length, take, drop, ◌-◌};
 ghost use Rattle.v_lexer.specs.declared.token.TokenKind.TheVariants.{End};
 ghost use Rattle.v_tree.specs.Written.{slice_of, lower};
 ghost use Rattle.v_lexer.specs.Bytes.{first};
@@ -8,15 +8,17 @@ ghost use Rattle.std.specs.Option.{option_copied};
 ghost use Rattle.std.specs.Str.{bytes_eq};
 ghost use Rattle.v_parser.specs.Input as spec;
 ghost use Rattle.v_parser.specs.Input.{Reads};
+ghost use Rattle.v_parser.specs.Drives.{amount_in, amount};
 
 use crate::fault::ParseFault;
 use byte_lists::Bytes;
 use std::alloc::{AllocError, Global};
 use std::marker::Model;
 use v_lexer::{
-    Literal, Token, TokenKind, is_left_out_word, is_literal, literal_value, name_text, number_value,
+    Literal, Token, TokenKind, decimal_digits, is_left_out_word, is_literal, literal_value,
+    name_text, number_value,
 };
-use v_tree::{Name, Place};
+use v_tree::{Amount, Location, Name};
 
 /// The tokens that are left, and the text that they stand in.
 #[derive(Drop)]
@@ -39,7 +41,7 @@ impl<'a> Model for Cursor<'a> {
     ghost invariant = { HasNumbers };
 }
 
-/// The bytes from one place to another, as far as they lie in the text.
+/// The bytes from one offset to another, as far as they lie in the text.
 fn piece(text: &[u8], start: usize, end: usize) -> &[u8]
     ensures { result.now ≡ take (end - start) (drop start text.now) }
 {
@@ -96,7 +98,7 @@ fn copy_of(alloc: Global, bytes: &[u8]) -> Result<Bytes, AllocError>
     Ok(Bytes::from_vec(bytes.to_vec(alloc)?))
 }
 
-#[tactic(auto, unfolding(crate::specs::Input::front, crate::specs::Input::place, crate::specs::Input::next, crate::specs::Input::kind_of, crate::specs::Input::bytes, crate::specs::Input::refusal, crate::specs::Input::mark, crate::specs::Input::skip, crate::specs::Input::word, crate::specs::Input::skip_word, crate::specs::Input::skip_symbol, crate::specs::Input::finish, crate::specs::Input::name, crate::specs::Input::number, crate::specs::Input::placed_number, crate::specs::Input::placed_based, v_tree::specs::Written::form_of))]
+#[tactic(auto, unfolding(crate::specs::Input::front, crate::specs::Input::location, crate::specs::Input::next, crate::specs::Input::kind_of, crate::specs::Input::bytes, crate::specs::Input::refusal, crate::specs::Input::mark, crate::specs::Input::skip, crate::specs::Input::word, crate::specs::Input::skip_word, crate::specs::Input::skip_symbol, crate::specs::Input::finish, crate::specs::Input::name, crate::specs::Input::number, crate::specs::Input::placed_number, crate::specs::Input::placed_based, crate::specs::Input::directive_word, crate::specs::Drives::amount, v_tree::specs::Written::form_of))]
 impl<'a> Cursor<'a> {
     /// All tokens of a text.
     pub fn new(alloc: Global, text: &'a [u8], tokens: &'a [Token]) -> Cursor<'a>
@@ -132,14 +134,14 @@ impl<'a> Cursor<'a> {
     }
 
     /// Where the next token stands.
-    pub fn place(&self) -> Place
-        ensures { result ≡ spec.place self.now }
+    pub fn location(&self) -> Location
+        ensures { result ≡ spec.location self.now }
     {
         let line = match self.tokens {
             [token, ..] => token.line,
             [] => 0,
         };
-        Place {
+        Location {
             line,
             token: self.number,
         }
@@ -180,6 +182,28 @@ impl<'a> Cursor<'a> {
         ensures { option_copied result ≡ spec.word_in (spec.front self.now) }
     {
         if self.kind() == TokenKind::Word {
+            Some(self.bytes())
+        } else {
+            None
+        }
+    }
+
+    /// The next token's text, where it is a name.
+    pub fn seen_name(&self) -> Option<&'a [u8]>
+        ensures { option_copied result ≡ spec.name_in (spec.front self.now) }
+    {
+        if self.kind() == TokenKind::Name {
+            Some(name_text(self.bytes()))
+        } else {
+            None
+        }
+    }
+
+    /// The next token's bytes, where it is a directive.
+    pub fn seen_directive(&self) -> Option<&'a [u8]>
+        ensures { option_copied result ≡ spec.directive_in (spec.front self.now) }
+    {
+        if self.kind() == TokenKind::Directive {
             Some(self.bytes())
         } else {
             None
@@ -228,14 +252,14 @@ impl<'a> Cursor<'a> {
         }
     }
 
-    /// A mark, with its place.
-    pub fn mark(&mut self, byte: u8) -> Result<Place, ParseFault>
+    /// A mark, with its location.
+    pub fn mark(&mut self, byte: u8) -> Result<Location, ParseFault>
         ensures { Reads (spec.mark byte self.old) result self.new }
     {
         if self.sees_mark(byte) {
-            let place = self.place();
+            let location = self.location();
             self.advance();
-            Ok(place)
+            Ok(location)
         } else {
             Err(self.refuse())
         }
@@ -265,14 +289,14 @@ impl<'a> Cursor<'a> {
         }
     }
 
-    /// A word, with its place.
-    pub fn word(&mut self, word: &[u8]) -> Result<Place, ParseFault>
+    /// A word, with its location.
+    pub fn word(&mut self, word: &[u8]) -> Result<Location, ParseFault>
         ensures { Reads (spec.word word.now self.old) result self.new }
     {
         if self.sees_word(word) {
-            let place = self.place();
+            let location = self.location();
             self.advance();
-            Ok(place)
+            Ok(location)
         } else {
             Err(self.refuse())
         }
@@ -285,6 +309,36 @@ impl<'a> Cursor<'a> {
         if self.sees_word(word) {
             self.advance();
             Ok(())
+        } else {
+            Err(self.refuse())
+        }
+    }
+
+    /// Whether the next token is this directive.
+    pub fn sees_directive(&self, bytes: &[u8]) -> bool
+        ensures { result ≡ spec.is_directive bytes.now (spec.front self.now) }
+    {
+        match self.tokens {
+            [token, ..] if token.kind == TokenKind::Directive => is(self.bytes(), bytes),
+            _ => false,
+        }
+    }
+
+    /// Whether the next token is some directive.
+    pub fn sees_some_directive(&self) -> bool
+        ensures { result ≡ is_some (spec.directive_in (spec.front self.now)) }
+    {
+        self.kind() == TokenKind::Directive
+    }
+
+    /// A directive, with its location.
+    pub fn directive(&mut self, bytes: &[u8]) -> Result<Location, ParseFault>
+        ensures { Reads (spec.directive_word bytes.now self.old) result self.new }
+    {
+        if self.sees_directive(bytes) {
+            let location = self.location();
+            self.advance();
+            Ok(location)
         } else {
             Err(self.refuse())
         }
@@ -317,17 +371,17 @@ impl<'a> Cursor<'a> {
         ensures { Reads (spec.name self.old) result self.new }
     {
         if self.kind() == TokenKind::Name {
-            let place = self.place();
+            let location = self.location();
             let text = copy_of(self.alloc, name_text(self.bytes()))?;
             self.advance();
-            Ok(Name { place, text })
+            Ok(Name { location, text })
         } else {
             Err(self.refuse())
         }
     }
 
     /// The next token as a number, where it is one.
-    fn value(&self) -> Option<u32>
+    pub fn seen_number(&self) -> Option<u32>
         ensures { result ≡ spec.number_in (spec.front self.now) }
     {
         if self.kind() == TokenKind::Number {
@@ -337,15 +391,15 @@ impl<'a> Cursor<'a> {
         }
     }
 
-    /// A number, with its place.
-    pub fn placed_number(&mut self) -> Result<(u32, Place), ParseFault>
+    /// A number, with its location.
+    pub fn placed_number(&mut self) -> Result<(u32, Location), ParseFault>
         ensures { Reads (spec.placed_number self.old) result self.new }
     {
-        match self.value() {
+        match self.seen_number() {
             Some(value) => {
-                let place = self.place();
+                let location = self.location();
                 self.advance();
-                Ok((value, place))
+                Ok((value, location))
             }
             None => Err(self.refuse()),
         }
@@ -381,7 +435,8 @@ impl<'a> Cursor<'a> {
 
     /// How many tokens are left.
     pub fn left(&self) -> usize
-        ensures { result ≡ length self.now.tokens }
+        ensures left { result ≡ length self.now.tokens }
+        ensures few { result < 2 ^ 32 }
     {
         self.tokens.len()
     }
@@ -402,7 +457,7 @@ impl<'a> Cursor<'a> {
     pub fn sees_number(&self) -> bool
         ensures { result ≡ spec.is_number (spec.front self.now) }
     {
-        self.value().is_some()
+        self.seen_number().is_some()
     }
 
     /// Whether the next token is a based number.
@@ -410,6 +465,40 @@ impl<'a> Cursor<'a> {
         ensures { result ≡ spec.is_based (spec.front self.now) }
     {
         self.kind() == TokenKind::Based && is_literal(self.bytes())
+    }
+
+    /// Whether the next token is a number or a decimal.
+    pub fn sees_amount(&self) -> bool
+        ensures { result ≡ is_some (amount_in (spec.front self.now)) }
+    {
+        self.kind() == TokenKind::Decimal || self.seen_number().is_some()
+    }
+
+    /// The next token as an amount, where it is one.
+    fn seen_amount(&self) -> Result<Option<Amount>, AllocError>
+        ensures { IfOk result (λ amount. amount ≡ amount_in (spec.front self.now)) }
+    {
+        if self.kind() == TokenKind::Decimal {
+            let digits = decimal_digits(self.alloc, self.bytes())?;
+            return Ok(Some(Amount::Decimal(digits)));
+        }
+        match self.seen_number() {
+            Some(value) => Ok(Some(Amount::Number(value))),
+            None => Ok(None),
+        }
+    }
+
+    /// A number or a decimal.
+    pub fn amount(&mut self) -> Result<Amount, ParseFault>
+        ensures { Reads (amount self.old) result self.new }
+    {
+        match self.seen_amount()? {
+            Some(amount) => {
+                self.advance();
+                Ok(amount)
+            }
+            None => Err(self.refuse()),
+        }
     }
 
     /// The next token as a literal, where it is one.
@@ -423,15 +512,15 @@ impl<'a> Cursor<'a> {
         }
     }
 
-    /// A based number, with its place.
-    pub fn placed_based(&mut self) -> Result<(Literal, Place), ParseFault>
+    /// A based number, with its location.
+    pub fn placed_based(&mut self) -> Result<(Literal, Location), ParseFault>
         ensures { Reads (spec.placed_based self.old) result self.new }
     {
         match self.literal()? {
             Some(literal) => {
-                let place = self.place();
+                let location = self.location();
                 self.advance();
-                Ok((literal, place))
+                Ok((literal, location))
             }
             None => Err(self.refuse()),
         }

@@ -14,8 +14,8 @@ use crate::fault::ParseFault;
 use crate::lists::{Part, separated};
 use crate::words::{sees, word_for};
 use v_tree::{
-    AssignItem, Declared, Direction, Expr, Name, NetDecl, NetType, Pair, PortDecl, Range, Spread,
-    SpreadWord, Target, TriregDecl, ValuedName,
+    AssignItem, Declared, Direction, Expr, Name, NetDecl, NetType, Pair, PortDecl, Range, Target,
+    TriregDecl, ValuedName, VectorRange, VectorWord,
 };
 
 /// An expression whose concatenations stand at most 64 deep.
@@ -34,7 +34,7 @@ fn target(cursor: &mut Cursor<'_>) -> Result<Target, ParseFault>
     target_at(cursor, 64)
 }
 
-/// A type of nets, without its place.
+/// A type of nets, without its location.
 #[tactic(auto, unfolding(crate::specs::Declarations::net_type))]
 fn net_type(cursor: &mut Cursor<'_>) -> Result<NetType, ParseFault>
     ensures { Reads (spec.net_type cursor.old) result cursor.new }
@@ -82,13 +82,13 @@ impl Part for Name {
 pub fn port_decl(cursor: &mut Cursor<'_>) -> Result<PortDecl, ParseFault>
     ensures { Reads (spec.port_decl cursor.old) result cursor.new }
 {
-    let (direction, place) = word_for::<Direction>(cursor)?;
+    let (direction, location) = word_for::<Direction>(cursor)?;
     let net_type = net_type_if_there(cursor)?;
     let range = range_if_there(cursor)?;
     let names = separated(cursor)?;
     cursor.skip(b';')?;
     Ok(PortDecl {
-        place,
+        location,
         direction,
         net_type,
         range,
@@ -96,44 +96,44 @@ pub fn port_decl(cursor: &mut Cursor<'_>) -> Result<PortDecl, ParseFault>
     })
 }
 
-/// A word before a range, without its place.
-#[tactic(auto, unfolding(crate::specs::Declarations::spread_named))]
-fn spread_named(cursor: &mut Cursor<'_>) -> Result<SpreadWord, ParseFault>
-    ensures { Reads (spec.spread_named cursor.old) result cursor.new }
+/// A word before a range, without its location.
+#[tactic(auto, unfolding(crate::specs::Declarations::vector_word_named))]
+fn vector_word_named(cursor: &mut Cursor<'_>) -> Result<VectorWord, ParseFault>
+    ensures { Reads (spec.vector_word_named cursor.old) result cursor.new }
 {
-    let (word, _) = word_for::<SpreadWord>(cursor)?;
+    let (word, _) = word_for::<VectorWord>(cursor)?;
     Ok(word)
 }
 
 /// A word before a range, where one comes next.
 #[tactic(auto, unfolding(crate::specs::Input::optional))]
-fn spread_named_if_there(cursor: &mut Cursor<'_>) -> Result<Option<SpreadWord>, ParseFault>
-    ensures { Reads (input.optional words.sees_spread spec.spread_named cursor.old) result cursor.new }
+fn vector_word_if_there(cursor: &mut Cursor<'_>) -> Result<Option<VectorWord>, ParseFault>
+    ensures { Reads (input.optional words.sees_vector_word spec.vector_word_named cursor.old) result cursor.new }
 {
-    if sees::<SpreadWord>(cursor) {
-        Ok(Some(spread_named(cursor)?))
+    if sees::<VectorWord>(cursor) {
+        Ok(Some(vector_word_named(cursor)?))
     } else {
         Ok(None)
     }
 }
 
 /// A range, with a word before it or without one.
-#[tactic(auto, unfolding(crate::specs::Declarations::spread))]
-fn spread(cursor: &mut Cursor<'_>) -> Result<Spread, ParseFault>
-    ensures { Reads (spec.spread cursor.old) result cursor.new }
+#[tactic(auto, unfolding(crate::specs::Declarations::vector_range))]
+fn vector_range(cursor: &mut Cursor<'_>) -> Result<VectorRange, ParseFault>
+    ensures { Reads (spec.vector_range cursor.old) result cursor.new }
 {
-    let word = spread_named_if_there(cursor)?;
+    let word = vector_word_if_there(cursor)?;
     let range = range(cursor)?;
-    Ok(Spread { word, range })
+    Ok(VectorRange { word, range })
 }
 
-/// A spread, where it begins.
+/// A vector_range, where it begins.
 #[tactic(auto, unfolding(crate::specs::Input::optional))]
-fn spread_if_there(cursor: &mut Cursor<'_>) -> Result<Option<Spread>, ParseFault>
-    ensures { Reads (input.optional spec.begins_spread spec.spread cursor.old) result cursor.new }
+fn vector_range_if_there(cursor: &mut Cursor<'_>) -> Result<Option<VectorRange>, ParseFault>
+    ensures { Reads (input.optional spec.begins_vector_range spec.vector_range cursor.old) result cursor.new }
 {
-    if sees::<SpreadWord>(cursor) || cursor.sees_mark(b'[') {
-        Ok(Some(spread(cursor)?))
+    if sees::<VectorWord>(cursor) || cursor.sees_mark(b'[') {
+        Ok(Some(vector_range(cursor)?))
     } else {
         Ok(None)
     }
@@ -172,42 +172,42 @@ fn declared(cursor: &mut Cursor<'_>) -> Result<Declared, ParseFault>
     }
 }
 
-/// `nettype [ drive ] [ spread ] [ delay ] declared ;`
+/// `nettype [ drive ] [ vector_range ] [ delay ] declared ;`
 #[tactic(auto, unfolding(crate::specs::Declarations::net_decl))]
 pub fn net_decl(cursor: &mut Cursor<'_>) -> Result<NetDecl, ParseFault>
     ensures { Reads (spec.net_decl cursor.old) result cursor.new }
 {
-    let (net_type, place) = word_for::<NetType>(cursor)?;
+    let (net_type, location) = word_for::<NetType>(cursor)?;
     let drive = drive_in_parentheses(cursor)?;
-    let spread = spread_if_there(cursor)?;
+    let vector_range = vector_range_if_there(cursor)?;
     let delay = delay_if_there(cursor)?;
     let declared = declared(cursor)?;
     cursor.skip(b';')?;
     Ok(NetDecl {
-        place,
+        location,
         net_type,
         drive,
-        spread,
+        vector_range,
         delay,
         declared,
     })
 }
 
-/// `trireg [ charge ] [ spread ] [ delay ] Name , .. ;`
+/// `trireg [ charge ] [ vector_range ] [ delay ] Name , .. ;`
 #[tactic(auto, unfolding(crate::specs::Declarations::trireg_decl))]
 pub fn trireg_decl(cursor: &mut Cursor<'_>) -> Result<TriregDecl, ParseFault>
     ensures { Reads (spec.trireg_decl cursor.old) result cursor.new }
 {
-    let place = cursor.word(b"trireg")?;
+    let location = cursor.word(b"trireg")?;
     let charge = charge_if_there(cursor)?;
-    let spread = spread_if_there(cursor)?;
+    let vector_range = vector_range_if_there(cursor)?;
     let delay = delay_if_there(cursor)?;
     let names = separated(cursor)?;
     cursor.skip(b';')?;
     Ok(TriregDecl {
-        place,
+        location,
         charge,
-        spread,
+        vector_range,
         delay,
         names,
     })
@@ -239,13 +239,13 @@ impl Part for Pair {
 pub fn assign_item(cursor: &mut Cursor<'_>) -> Result<AssignItem, ParseFault>
     ensures { Reads (spec.assign_item cursor.old) result cursor.new }
 {
-    let place = cursor.word(b"assign")?;
+    let location = cursor.word(b"assign")?;
     let drive = drive_in_parentheses(cursor)?;
     let delay = delay_if_there(cursor)?;
     let pairs = separated(cursor)?;
     cursor.skip(b';')?;
     Ok(AssignItem {
-        place,
+        location,
         drive,
         delay,
         pairs,

@@ -4,15 +4,15 @@ ghost use Rattle.std.specs.Prelude.{◌≡◌};
 ghost use Rattle.v_parser.specs.Input as input;
 ghost use Rattle.v_parser.specs.Input.{Reads};
 ghost use Rattle.v_parser.specs.Drives as spec;
-ghost use Rattle.v_parser.specs.Expressions.{sees_mark, sees_number};
+ghost use Rattle.v_parser.specs.Expressions.{sees_mark};
 
 use crate::cursor::Cursor;
 use crate::fault::ParseFault;
 use crate::lists::{Part, separated};
 use crate::words::{sees, word_for};
-use v_tree::{Charge, Delay, DelaySpec, DelayValue, Drive, Level, PullLevels};
+use v_tree::{Amount, Charge, Delay, DelaySpec, DelayValue, DriveStrength, Level, PullLevels};
 
-/// A level, without its place.
+/// A level, without its location.
 #[tactic(auto, unfolding(crate::specs::Drives::level))]
 fn level(cursor: &mut Cursor<'_>) -> Result<Level, ParseFault>
     ensures { Reads (spec.level cursor.old) result cursor.new }
@@ -23,16 +23,16 @@ fn level(cursor: &mut Cursor<'_>) -> Result<Level, ParseFault>
 
 /// `( level , level )`
 #[tactic(auto, unfolding(crate::specs::Drives::drive))]
-fn drive(cursor: &mut Cursor<'_>) -> Result<Drive, ParseFault>
+fn drive(cursor: &mut Cursor<'_>) -> Result<DriveStrength, ParseFault>
     ensures { Reads (spec.drive cursor.old) result cursor.new }
 {
-    let place = cursor.mark(b'(')?;
+    let location = cursor.mark(b'(')?;
     let first = level(cursor)?;
     cursor.skip(b',')?;
     let second = level(cursor)?;
     cursor.skip(b')')?;
-    Ok(Drive {
-        place,
+    Ok(DriveStrength {
+        location,
         first,
         second,
     })
@@ -47,7 +47,7 @@ pub fn sees_drive(cursor: &Cursor<'_>) -> bool
 
 /// A drive, where a `(` comes next.
 #[tactic(auto, unfolding(crate::specs::Input::optional))]
-pub fn drive_in_parentheses(cursor: &mut Cursor<'_>) -> Result<Option<Drive>, ParseFault>
+pub fn drive_in_parentheses(cursor: &mut Cursor<'_>) -> Result<Option<DriveStrength>, ParseFault>
     ensures { Reads (input.optional (sees_mark 40) spec.drive cursor.old) result cursor.new }
 {
     if cursor.sees_mark(b'(') {
@@ -59,7 +59,7 @@ pub fn drive_in_parentheses(cursor: &mut Cursor<'_>) -> Result<Option<Drive>, Pa
 
 /// A drive, where a `(` and a level come next.
 #[tactic(auto, unfolding(crate::specs::Input::optional))]
-pub fn drive_if_there(cursor: &mut Cursor<'_>) -> Result<Option<Drive>, ParseFault>
+pub fn drive_if_there(cursor: &mut Cursor<'_>) -> Result<Option<DriveStrength>, ParseFault>
     ensures { Reads (input.optional spec.sees_drive spec.drive cursor.old) result cursor.new }
 {
     if sees_drive(cursor) {
@@ -95,12 +95,12 @@ fn second_level_if_there(cursor: &mut Cursor<'_>) -> Result<Option<Level>, Parse
 fn pull_levels(cursor: &mut Cursor<'_>) -> Result<PullLevels, ParseFault>
     ensures { Reads (spec.pull_levels cursor.old) result cursor.new }
 {
-    let place = cursor.mark(b'(')?;
+    let location = cursor.mark(b'(')?;
     let first = level(cursor)?;
     let second = second_level_if_there(cursor)?;
     cursor.skip(b')')?;
     Ok(PullLevels {
-        place,
+        location,
         first,
         second,
     })
@@ -118,7 +118,7 @@ pub fn pull_levels_if_there(cursor: &mut Cursor<'_>) -> Result<Option<PullLevels
     }
 }
 
-/// A word for a charge, without its place.
+/// A word for a charge, without its location.
 #[tactic(auto, unfolding(crate::specs::Drives::charge_named))]
 fn charge_named(cursor: &mut Cursor<'_>) -> Result<Charge, ParseFault>
     ensures { Reads (spec.charge_named cursor.old) result cursor.new }
@@ -150,21 +150,21 @@ pub fn charge_if_there(cursor: &mut Cursor<'_>) -> Result<Option<Charge>, ParseF
     }
 }
 
-/// `: number : number`
+/// `: amount : amount`
 #[tactic(auto, unfolding(crate::specs::Drives::other_values))]
-fn other_values(cursor: &mut Cursor<'_>) -> Result<(u32, u32), ParseFault>
+fn other_values(cursor: &mut Cursor<'_>) -> Result<(Amount, Amount), ParseFault>
     ensures { Reads (spec.other_values cursor.old) result cursor.new }
 {
     cursor.skip(b':')?;
-    let typical = cursor.number()?;
+    let typical = cursor.amount()?;
     cursor.skip(b':')?;
-    let greatest = cursor.number()?;
+    let greatest = cursor.amount()?;
     Ok((typical, greatest))
 }
 
 /// Two more values, where a `:` comes next.
 #[tactic(auto, unfolding(crate::specs::Input::optional))]
-fn other_values_if_there(cursor: &mut Cursor<'_>) -> Result<Option<(u32, u32)>, ParseFault>
+fn other_values_if_there(cursor: &mut Cursor<'_>) -> Result<Option<(Amount, Amount)>, ParseFault>
     ensures { Reads (input.optional (sees_mark 58) spec.other_values cursor.old) result cursor.new }
 {
     if cursor.sees_mark(b':') {
@@ -174,12 +174,12 @@ fn other_values_if_there(cursor: &mut Cursor<'_>) -> Result<Option<(u32, u32)>, 
     }
 }
 
-/// A number, or three with `:` between.
+/// An amount, or three with `:` between.
 #[tactic(auto, unfolding(crate::specs::Drives::delay_value))]
 fn delay_value(cursor: &mut Cursor<'_>) -> Result<DelayValue, ParseFault>
     ensures { Reads (spec.delay_value cursor.old) result cursor.new }
 {
-    let value = cursor.number()?;
+    let value = cursor.amount()?;
     match other_values_if_there(cursor)? {
         Some((typical, greatest)) => Ok(DelayValue::Three(value, typical, greatest)),
         None => Ok(DelayValue::One(value)),
@@ -207,26 +207,26 @@ fn delay_values(cursor: &mut Cursor<'_>) -> Result<Delay, ParseFault>
     Ok(Delay::Values(values))
 }
 
-/// A number, or values in parentheses.
+/// An amount, or values in parentheses.
 #[tactic(auto, unfolding(crate::specs::Input::choice))]
 fn delay(cursor: &mut Cursor<'_>) -> Result<Delay, ParseFault>
     ensures { Reads (spec.delay cursor.old) result cursor.new }
 {
-    if cursor.sees_number() {
-        Ok(Delay::Number(cursor.number()?))
+    if cursor.sees_amount() {
+        Ok(Delay::Amount(cursor.amount()?))
     } else {
         delay_values(cursor)
     }
 }
 
-/// `# number` or `# ( value , .. )`
+/// `# amount` or `# ( value , .. )`
 #[tactic(auto, unfolding(crate::specs::Drives::delay_spec))]
 fn delay_spec(cursor: &mut Cursor<'_>) -> Result<DelaySpec, ParseFault>
     ensures { Reads (spec.delay_spec cursor.old) result cursor.new }
 {
-    let place = cursor.mark(b'#')?;
+    let location = cursor.mark(b'#')?;
     let delay = delay(cursor)?;
-    Ok(DelaySpec { place, delay })
+    Ok(DelaySpec { location, delay })
 }
 
 /// A delay, where a `#` comes next.

@@ -7,8 +7,7 @@ ghost use Rattle.v_parser.specs.Expressions as spec;
 
 use crate::cursor::Cursor;
 use crate::fault::ParseFault;
-use crate::lists::passes_comma;
-use sqlite_items::Items;
+use crate::lists::{listed, passes_comma};
 use v_tree::{Expr, ExprList, Pick, Range, Select, Target, TargetList};
 
 /// `[ number : number ]`
@@ -88,11 +87,11 @@ fn atom(cursor: &mut Cursor<'_>) -> Result<Expr, ParseFault>
         return Ok(Expr::Pick(pick(cursor)?));
     }
     if cursor.sees_number() {
-        let (value, place) = cursor.placed_number()?;
-        return Ok(Expr::Number(place, value));
+        let (value, location) = cursor.placed_number()?;
+        return Ok(Expr::Number(location, value));
     }
-    let (literal, place) = cursor.placed_based()?;
-    Ok(Expr::Based(place, literal))
+    let (literal, location) = cursor.placed_based()?;
+    Ok(Expr::Based(location, literal))
 }
 
 /// Expressions with commas between, with concatenations so deep at most.
@@ -101,15 +100,15 @@ fn atom(cursor: &mut Cursor<'_>) -> Result<Expr, ParseFault>
 fn exprs_at(cursor: &mut Cursor<'_>, depth: u32) -> Result<ExprList, ParseFault>
     ensures { Reads (input.separated (spec.expr_at depth) cursor.old) result cursor.new }
 {
-    let mut parts = Items::new(cursor.alloc());
+    let mut parts = Vec::new(cursor.alloc());
     parts.push(expr_at(cursor, depth)?)?;
     for _ in 0..cursor.left() {
         if !passes_comma(cursor) {
-            return Ok(parts);
+            return Ok(listed(parts));
         }
         parts.push(expr_at(cursor, depth)?)?;
     }
-    Ok(parts)
+    Ok(listed(parts))
 }
 
 /// An expression with concatenations so deep at most.
@@ -124,10 +123,10 @@ pub fn expr_at(cursor: &mut Cursor<'_>, depth: u32) -> Result<Expr, ParseFault>
     if !cursor.sees_mark(b'{') {
         return atom(cursor);
     }
-    let place = cursor.mark(b'{')?;
+    let location = cursor.mark(b'{')?;
     let parts = exprs_at(cursor, depth - 1)?;
     cursor.skip(b'}')?;
-    Ok(Expr::Concat(place, parts))
+    Ok(Expr::Concat(location, parts))
 }
 
 /// Targets with commas between, with concatenations so deep at most.
@@ -136,15 +135,15 @@ pub fn expr_at(cursor: &mut Cursor<'_>, depth: u32) -> Result<Expr, ParseFault>
 fn targets_at(cursor: &mut Cursor<'_>, depth: u32) -> Result<TargetList, ParseFault>
     ensures { Reads (input.separated (spec.target_at depth) cursor.old) result cursor.new }
 {
-    let mut parts = Items::new(cursor.alloc());
+    let mut parts = Vec::new(cursor.alloc());
     parts.push(target_at(cursor, depth)?)?;
     for _ in 0..cursor.left() {
         if !passes_comma(cursor) {
-            return Ok(parts);
+            return Ok(listed(parts));
         }
         parts.push(target_at(cursor, depth)?)?;
     }
-    Ok(parts)
+    Ok(listed(parts))
 }
 
 /// A target with concatenations so deep at most.
@@ -159,8 +158,8 @@ pub fn target_at(cursor: &mut Cursor<'_>, depth: u32) -> Result<Target, ParseFau
     if !cursor.sees_mark(b'{') {
         return Ok(Target::Pick(pick(cursor)?));
     }
-    let place = cursor.mark(b'{')?;
+    let location = cursor.mark(b'{')?;
     let parts = targets_at(cursor, depth - 1)?;
     cursor.skip(b'}')?;
-    Ok(Target::Concat(place, parts))
+    Ok(Target::Concat(location, parts))
 }

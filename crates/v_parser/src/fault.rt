@@ -2,19 +2,15 @@ ghost use Rattle.std.specs.Prelude.{◌≡◌};
 ghost use Rattle.v_parser.specs.declared.fault.ParseFault.TheVariants.{Memory};
 
 use std::alloc::{AllocError, AllocFailed};
-use thiserror::Error;
 
 /// Why a list of tokens has no tree. The number is that of the refused token, counted from 0.
-#[derive(Clone, Copy, Debug, PartialEq, Eq, Hash, Error)]
+#[derive(Clone, Copy, Debug, PartialEq, Eq, Hash)]
 pub enum ParseFault {
     /// The token belongs to a part of the language that the grammar leaves out.
-    #[error("token {0} is unsupported")]
     Unsupported(u32),
-    /// The grammar has no such token at its place.
-    #[error("token {0} is out of place")]
+    /// The grammar has no such token in its place.
     Syntax(u32),
     /// There is no memory for the tree.
-    #[error("out of memory")]
     Memory,
 }
 

@@ -71,13 +71,13 @@ impl Part for Terms {
 pub fn logic_item(cursor: &mut Cursor<'_>) -> Result<GateItem, ParseFault>
     ensures { Reads (spec.logic_item cursor.old) result cursor.new }
 {
-    let (gate, place) = word_for::<LogicGate>(cursor)?;
+    let (gate, location) = word_for::<LogicGate>(cursor)?;
     let drive = drive_if_there(cursor)?;
     let delay = delay_if_there(cursor)?;
     let gates = separated(cursor)?;
     cursor.skip(b';')?;
     Ok(GateItem {
-        place,
+        location,
         kind: GateKind::Logic(gate, drive, delay),
         gates,
     })
@@ -88,12 +88,12 @@ pub fn logic_item(cursor: &mut Cursor<'_>) -> Result<GateItem, ParseFault>
 pub fn switch_item(cursor: &mut Cursor<'_>) -> Result<GateItem, ParseFault>
     ensures { Reads (spec.switch_item cursor.old) result cursor.new }
 {
-    let (switch, place) = word_for::<Switch>(cursor)?;
+    let (switch, location) = word_for::<Switch>(cursor)?;
     let delay = delay_if_there(cursor)?;
     let gates = separated(cursor)?;
     cursor.skip(b';')?;
     Ok(GateItem {
-        place,
+        location,
         kind: GateKind::Switch(switch, delay),
         gates,
     })
@@ -104,11 +104,11 @@ pub fn switch_item(cursor: &mut Cursor<'_>) -> Result<GateItem, ParseFault>
 pub fn tran_item(cursor: &mut Cursor<'_>) -> Result<GateItem, ParseFault>
     ensures { Reads (spec.tran_item cursor.old) result cursor.new }
 {
-    let (tran, place) = word_for::<TranGate>(cursor)?;
+    let (tran, location) = word_for::<TranGate>(cursor)?;
     let gates = separated(cursor)?;
     cursor.skip(b';')?;
     Ok(GateItem {
-        place,
+        location,
         kind: GateKind::Tran(tran),
         gates,
     })
@@ -119,12 +119,12 @@ pub fn tran_item(cursor: &mut Cursor<'_>) -> Result<GateItem, ParseFault>
 pub fn pull_item(cursor: &mut Cursor<'_>) -> Result<GateItem, ParseFault>
     ensures { Reads (spec.pull_item cursor.old) result cursor.new }
 {
-    let (pull, place) = word_for::<PullGate>(cursor)?;
+    let (pull, location) = word_for::<PullGate>(cursor)?;
     let levels = pull_levels_if_there(cursor)?;
     let gates = separated(cursor)?;
     cursor.skip(b';')?;
     Ok(GateItem {
-        place,
+        location,
         kind: GateKind::Pull(pull, levels),
         gates,
     })
@@ -166,12 +166,16 @@ impl Part for Option<Expr> {
 fn connection(cursor: &mut Cursor<'_>) -> Result<Connection, ParseFault>
     ensures { Reads (spec.connection cursor.old) result cursor.new }
 {
-    let place = cursor.mark(b'.')?;
+    let location = cursor.mark(b'.')?;
     let port = cursor.name()?;
     cursor.skip(b'(')?;
     let value = expr_if_there(cursor)?;
     cursor.skip(b')')?;
-    Ok(Connection { place, port, value })
+    Ok(Connection {
+        location,
+        port,
+        value,
+    })
 }
 
 impl Part for Connection {

@@ -1,9 +1,11 @@
 //! The tree of a list of tokens, or the first token that the grammar refuses.
 #![tactic(auto)]
 
+mod blocks;
 mod cursor;
 mod declarations;
 mod descriptions;
+mod directives;
 mod drives;
 mod expressions;
 mod fault;

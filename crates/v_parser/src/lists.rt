@@ -33,7 +33,7 @@ pub fn passes_comma(cursor: &mut Cursor<'_>) -> bool
 }
 
 /// The parts as a list of a tree, which takes no more room than they need.
-fn listed<P: Drop>(mut found: Vec<P>) -> Items<P>
+pub fn listed<P: Drop>(mut found: Vec<P>) -> Items<P>
     ensures { result ≡ found.items }
 {
     found.shrink_to_fit();

@@ -5,10 +5,12 @@ ghost use Rattle.v_parser.specs.Input as input;
 ghost use Rattle.v_parser.specs.Input.{Reads};
 ghost use Rattle.v_parser.specs.Modules as spec;
 
+use crate::blocks::specify_block;
 use crate::cursor::Cursor;
 use crate::declarations::{
     assign_item, net_decl, net_type_if_there, port_decl, range_if_there, trireg_decl,
 };
+use crate::directives::cell;
 use crate::fault::ParseFault;
 use crate::gates::{instance, logic_item, pull_item, switch_item, tran_item};
 use crate::lists::{Part, Repeated, commas, many, separated};
@@ -19,7 +21,31 @@ use v_tree::{
     Switch, TranGate,
 };
 
-/// A pull gate, or an instance.
+/// A block that is passed over, or an instance.
+#[tactic(auto, unfolding(crate::specs::Modules::blocks, crate::specs::Input::choice))]
+fn blocks(cursor: &mut Cursor<'_>) -> Result<Item, ParseFault>
+    ensures { Reads (spec.blocks cursor.old) result cursor.new }
+{
+    if cursor.sees_word(b"specify") {
+        Ok(Item::Specify(specify_block(cursor)?))
+    } else {
+        Ok(Item::Instances(instance(cursor)?))
+    }
+}
+
+/// A cell, or what `blocks` reads.
+#[tactic(auto, unfolding(crate::specs::Modules::cells, crate::specs::Input::choice))]
+fn cells(cursor: &mut Cursor<'_>) -> Result<Item, ParseFault>
+    ensures { Reads (spec.cells cursor.old) result cursor.new }
+{
+    if cursor.sees_some_directive() {
+        Ok(Item::Cell(cell(cursor)?))
+    } else {
+        blocks(cursor)
+    }
+}
+
+/// A pull gate, or what `cells` reads.
 #[tactic(auto, unfolding(crate::specs::Modules::pulls, crate::specs::Input::choice))]
 fn pulls(cursor: &mut Cursor<'_>) -> Result<Item, ParseFault>
     ensures { Reads (spec.pulls cursor.old) result cursor.new }
@@ -27,7 +53,7 @@ fn pulls(cursor: &mut Cursor<'_>) -> Result<Item, ParseFault>
     if sees::<PullGate>(cursor) {
         Ok(Item::Gates(pull_item(cursor)?))
     } else {
-        Ok(Item::Instances(instance(cursor)?))
+        cells(cursor)
     }
 }
 
@@ -140,12 +166,12 @@ impl Repeated for Item {
 fn ansi_port(cursor: &mut Cursor<'_>) -> Result<AnsiPort, ParseFault>
     ensures { Reads (spec.ansi_port cursor.old) result cursor.new }
 {
-    let (direction, place) = word_for::<Direction>(cursor)?;
+    let (direction, location) = word_for::<Direction>(cursor)?;
     let net_type = net_type_if_there(cursor)?;
     let range = range_if_there(cursor)?;
     let name = cursor.name()?;
     Ok(AnsiPort {
-        place,
+        location,
         direction,
         net_type,
         range,
@@ -240,14 +266,14 @@ fn header_ports(cursor: &mut Cursor<'_>) -> Result<Ports, ParseFault>
 pub fn module_at(cursor: &mut Cursor<'_>) -> Result<Module, ParseFault>
     ensures { Reads (spec.module_at cursor.old) result cursor.new }
 {
-    let (word, place) = word_for::<ModuleWord>(cursor)?;
+    let (word, location) = word_for::<ModuleWord>(cursor)?;
     let name = cursor.name()?;
     let ports = header_ports(cursor)?;
     cursor.skip(b';')?;
     let items = many(cursor)?;
     cursor.skip_word(b"endmodule")?;
     Ok(Module {
-        place,
+        location,
         word,
         name,
         ports,

@@ -6,22 +6,18 @@ ghost use Rattle.v_tree.specs.Tree.{IsTreeOf};
 ghost use Rattle.v_parser.specs.Reading.{Gives, GivesLists, IsRefusalOf, IsUnlessMemory, descriptions_of};
 
 use crate::cursor::Cursor;
-use crate::descriptions::descriptions;
+use crate::descriptions::{Lists, descriptions};
 use crate::fault::ParseFault;
 use std::alloc::Global;
 use v_lexer::{Token, TokenList};
-use v_tree::{File, ModuleList, UdpDeclList};
+use v_tree::File;
 
-/// The modules and the primitives of the tokens of a text.
-fn read_lists(
-    alloc: Global,
-    text: &[u8],
-    tokens: &[Token],
-) -> Result<(ModuleList, UdpDeclList), ParseFault>
+/// The modules, the primitives and the directives of the tokens of a text.
+fn read_lists(alloc: Global, text: &[u8], tokens: &[Token]) -> Result<Lists, ParseFault>
     requires small { length text.now ≤ 67108864 }
     requires tokens { AreTokensOf text.now tokens.now }
     ensures exact { GivesLists (descriptions_of text.now tokens.now) result }
-    ensures fit { IfOk result (λ lists. AreFitLists lists.0 lists.1) }
+    ensures fit { IfOk result (λ lists. AreFitLists lists.0 lists.1 lists.2) }
     ensures refused { IfErr result (λ fault. IsRefusalOf text.now tokens.now fault) }
 {
     let mut cursor = Cursor::new(alloc, text, tokens);
@@ -48,8 +44,12 @@ pub fn parse(alloc: Global, text: &[u8], tokens: &TokenList) -> Result<File, Par
 {
     match read_lists(alloc, text, tokens.as_slice()) {
         Ok(lists) => {
-            let (modules, udps) = lists;
-            Ok(File { modules, udps })
+            let (modules, udps, directives) = lists;
+            Ok(File {
+                modules,
+                udps,
+                directives,
+            })
         }
         Err(fault) => Err(fault),
     }

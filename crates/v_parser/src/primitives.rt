@@ -32,11 +32,11 @@ fn lit(cursor: &mut Cursor<'_>) -> Result<Lit, ParseFault>
     ensures { Reads (spec.lit cursor.old) result cursor.new }
 {
     if cursor.sees_number() {
-        let (value, place) = cursor.placed_number()?;
-        Ok(Lit::Number(place, value))
+        let (value, location) = cursor.placed_number()?;
+        Ok(Lit::Number(location, value))
     } else {
-        let (literal, place) = cursor.placed_based()?;
-        Ok(Lit::Based(place, literal))
+        let (literal, location) = cursor.placed_based()?;
+        Ok(Lit::Based(location, literal))
     }
 }
 
@@ -130,13 +130,13 @@ fn header(cursor: &mut Cursor<'_>) -> Result<UdpPorts, ParseFault>
 fn output_item(cursor: &mut Cursor<'_>) -> Result<UdpItem, ParseFault>
     ensures { Reads (spec.output_item cursor.old) result cursor.new }
 {
-    let place = cursor.word(b"output")?;
+    let location = cursor.word(b"output")?;
     let is_reg = flag(cursor, b"reg")?;
     let name = cursor.name()?;
     let start = start_if_there(cursor)?;
     cursor.skip(b';')?;
     Ok(UdpItem::Output {
-        place,
+        location,
         is_reg,
         name,
         start,
@@ -148,10 +148,10 @@ fn output_item(cursor: &mut Cursor<'_>) -> Result<UdpItem, ParseFault>
 fn input_item(cursor: &mut Cursor<'_>) -> Result<UdpItem, ParseFault>
     ensures { Reads (spec.input_item cursor.old) result cursor.new }
 {
-    let place = cursor.word(b"input")?;
+    let location = cursor.word(b"input")?;
     let names = separated(cursor)?;
     cursor.skip(b';')?;
-    Ok(UdpItem::Input(place, names))
+    Ok(UdpItem::Input(location, names))
 }
 
 /// `reg Name ;`
@@ -159,10 +159,10 @@ fn input_item(cursor: &mut Cursor<'_>) -> Result<UdpItem, ParseFault>
 fn reg_item(cursor: &mut Cursor<'_>) -> Result<UdpItem, ParseFault>
     ensures { Reads (spec.reg_item cursor.old) result cursor.new }
 {
-    let place = cursor.word(b"reg")?;
+    let location = cursor.word(b"reg")?;
     let name = cursor.name()?;
     cursor.skip(b';')?;
-    Ok(UdpItem::Reg(place, name))
+    Ok(UdpItem::Reg(location, name))
 }
 
 /// An input or a register.
@@ -214,12 +214,16 @@ impl Repeated for UdpItem {
 fn initial(cursor: &mut Cursor<'_>) -> Result<UdpInitial, ParseFault>
     ensures { Reads (spec.initial cursor.old) result cursor.new }
 {
-    let place = cursor.word(b"initial")?;
+    let location = cursor.word(b"initial")?;
     let name = cursor.name()?;
     cursor.skip(b'=')?;
     let value = lit(cursor)?;
     cursor.skip(b';')?;
-    Ok(UdpInitial { place, name, value })
+    Ok(UdpInitial {
+        location,
+        name,
+        value,
+    })
 }
 
 /// `initial Name = lit ;`, where the word comes next.
@@ -272,13 +276,13 @@ fn body(
 pub fn udp(cursor: &mut Cursor<'_>) -> Result<UdpDecl, ParseFault>
     ensures { Reads (spec.udp cursor.old) result cursor.new }
 {
-    let place = cursor.word(b"primitive")?;
+    let location = cursor.word(b"primitive")?;
     let name = cursor.name()?;
     let ports = header(cursor)?;
     cursor.skip(b';')?;
     let (items, initial, rows) = body(cursor)?;
     Ok(UdpDecl {
-        place,
+        location,
         name,
         ports,
         items,

@@ -194,14 +194,14 @@ fn row(cursor: &mut Cursor<'_>) -> Result<UdpRow, ParseFault>
     Ok(UdpRow { ins, state, out })
 }
 
-/// A row, with the place of its first token.
+/// A row, with the location of its first token.
 #[tactic(auto, unfolding(crate::specs::Primitives::placed_row))]
 fn placed_row(cursor: &mut Cursor<'_>) -> Result<PlacedRow, ParseFault>
     ensures { Reads (spec.placed_row cursor.old) result cursor.new }
 {
-    let place = cursor.place();
+    let location = cursor.location();
     let row = row(cursor)?;
-    Ok(PlacedRow { place, row })
+    Ok(PlacedRow { location, row })
 }
 
 impl Part for PlacedRow {

@@ -36,6 +36,54 @@ m => syntax 0
 ; => syntax 0
 endmodule => syntax 0
 `x => unsupported 0
+`celldefine => 0:Celldefine;
+`endcelldefine => 0:Endcelldefine;
+`resetall module m; endmodule `resetall => 1:Module m Absent; 0:Resetall; 5:Resetall;
+`timescale 1ns/10ps => 0:Timescale -9/-11;
+`timescale 1 s / 1 fs => 0:Timescale 0/-15;
+`timescale 100 s/10s => 0:Timescale 2/1;
+`timescale 100ms/10ms => 0:Timescale -1/-2;
+`timescale 1ms/100us => 0:Timescale -3/-4;
+`timescale 10us/1us => 0:Timescale -5/-6;
+`timescale 100ns/10ns => 0:Timescale -7/-8;
+`timescale 100ps/1ps => 0:Timescale -10/-12;
+`timescale 100fs/10fs => 0:Timescale -13/-14;
+`timescale 1ns/10\ps  => 0:Timescale -9/-11;
+`timescale 0_1ns/010ps => 0:Timescale -9/-11;
+`timescale 1ps/1ns => 0:Timescale -12/-9;
+`default_nettype wire => 0:Default Wire;
+`default_nettype tri => 0:Default Tri;
+`default_nettype tri0 => 0:Default Tri0;
+`default_nettype tri1 => 0:Default Tri1;
+`default_nettype wand => 0:Default Wand;
+`default_nettype triand => 0:Default Triand;
+`default_nettype wor => 0:Default Wor;
+`default_nettype trior => 0:Default Trior;
+`default_nettype trireg => 0:Default Trireg;
+`default_nettype none => 0:Default none;
+`default_nettype \none module m; endmodule => 2:Module m Absent; 0:Default none;
+`timescale 1ns/1ps `celldefine module a; endmodule `endcelldefine `default_nettype none primitive p(y); table endtable endprimitive `resetall module b; endmodule => 7:Module a Absent; 24:Module b Absent; 14:p (y) |; 0:Timescale -9/-12; 6:Celldefine; 11:Endcelldefine; 12:Default none; 23:Resetall;
+`timescale 1ns/2ps => syntax 4
+`timescale 1 ns/ps => syntax 4
+`timescale 2ns/1ps => syntax 1
+`timescale 1000ns/1ps => syntax 1
+`timescale 1xs/1ps => syntax 2
+`timescale 1ns 1ps => syntax 3
+`timescale 1ns/ => syntax 4
+`timescale 1ns/1wire => syntax 5
+`timescale 1.0ns/1ps => unsupported 1
+`timescale 1/1ps => syntax 2
+`timescale 1'b1 s/1ps => syntax 1
+`default_nettype reg => unsupported 1
+`default_nettype supply0 => syntax 1
+`default_nettype nine => syntax 1
+`default_nettype => syntax 1
+`define x => unsupported 0
+`resetall; => syntax 1
+`celldefine x => syntax 1
+module m; `define => unsupported 3
+module `celldefine m; => unsupported 1
+primitive p(y); `celldefine table endtable endprimitive => unsupported 6
 always => unsupported 0
 primitive p(a); => syntax 6
 module m( => syntax 3
@@ -163,7 +211,9 @@ assign a = b; => 3:Assign a=b
 assign a = b, c[1] = d[2]; => 3:Assign a=b,c[1]=d[2]
 assign (strong0, strong1) #(1,2) {a, b[3:2]} = {c, 2'b1x}; => 3:Assign 4(Strong0,Strong1) 9#(1,2) {a,b[3:2]}={c,2b1x}
 assign {a, {b, {c}}} = 4'sb1000; => 3:Assign {a,{b,{c}}}=4b1000s
-assign a = 'o7; => 3:Assign a=-b00000000000000000000000000000111
+assign a = 'h0xxxxxxxx; => 3:Assign a=-0bxxxxxxxxxxxxxxxxxxxxxxxxxxxxxxxx
+assign a = 'hxxxxxxxx; => 3:Assign a=-xbxxxxxxxxxxxxxxxxxxxxxxxxxxxxxxxx
+assign a = 'o7; => 3:Assign a=-0b00000000000000000000000000000111
 and (y, a); => 3:And 4(y,a)
 nand g (y, a, b); => 3:Nand g5(y,a,b)
 or (y, a), g (z, b); => 3:Or 4(y,a),g11(z,b)
@@ -227,7 +277,33 @@ wire #() a; => syntax 6
 wire #(1,) a; => syntax 8
 wire #(1:2) a; => syntax 9
 wire #(1:2:3:4) a; => syntax 11
-wire #1.5 a; => unsupported 5
+wire #1.5 a; => 3:Wire 4#1.5 a
+buf #0.12 (y, a); => 3:Buf 4#0.12 6(y,a)
+not #(0.12,0.1) (y, a); => 3:Not 4#(0.12,0.1) 10(y,a)
+nor #(1:2.5:3) g (y, a); => 3:Nor 4#(1:2.5:3) g13(y,a)
+xor #(0.1:0.2:00.30,4) (y, a); => 3:Xor 4#(0.1:0.2:00.30,4) 14(y,a)
+u #99999999999.123456789012 v (a); => 3:u 4#99999999999.123456789012 v7(a)
+trireg #(0,0,50.25) a; => 3:Trireg 4#(0,0,50.25) a
+`celldefine => 3:Celldefine
+`endcelldefine `celldefine wire a; => 3:Endcelldefine 4:Celldefine 5:Wire a
+specify endspecify => 3:Specify 0
+specify (A *> Y) = (0.2, 0.2); endspecify => 3:Specify 13
+specify specify module always 3'b1 "x" `x { endspecify wire a; => 3:Specify 7 12:Wire a
+wire a; specify endmodule endspecify `endcelldefine => 3:Wire a 6:Specify 1 9:Endcelldefine
+wire #1e5 a; => unsupported 5
+wire #.5 a; => syntax 5
+wire #1.5.2 a; => syntax 6
+wire #(1.5 a; => syntax 7
+wire #(1:2.5) a; => syntax 9
+wire #(1:2.5:) a; => syntax 10
+wire [1.5:0] a; => unsupported 5
+assign a = 1.5; => unsupported 6
+endspecify => unsupported 3
+specify endmodul endmodule => syntax 7
+`timescale 1ns/1ns => unsupported 3
+`resetall => unsupported 3
+`default_nettype wire => unsupported 3
+`celldefine; => syntax 4
 wire #1 #2 a; => syntax 6
 wire signed a; => unsupported 4
 wire a[3]; => syntax 5
@@ -284,7 +360,6 @@ reg a; => unsupported 3
 parameter a; => unsupported 3
 always a; => unsupported 3
 initial a; => unsupported 3
-specify a; => unsupported 3
 function a; => unsupported 3
 generate a; => unsupported 3
 integer a; => unsupported 3
@@ -302,14 +377,52 @@ vectored a; => syntax 3
 1 => syntax 3
 "##;
 
-// Words that the grammar leaves out, each refused as an item.
+// Words that the grammar has nowhere in a module, each refused as an item.
 const LEFT_OUT: &str =
-    "always automatic begin case casex casez deassign defparam disable edge else end endcase endfunction endgenerate endspecify endtask event for force forever fork function generate genvar if initial integer join localparam negedge parameter posedge real realtime reg release repeat signed specify specparam task time unsigned uwire wait while";
+    "always automatic begin case casex casez deassign defparam disable edge else end endcase endfunction endgenerate endspecify endtask event for force forever fork function generate genvar if initial integer join localparam negedge parameter posedge real realtime reg release repeat signed specparam task time unsigned uwire wait while";
+
+// The netlist of a cell library's user.
+const COUNT2: &str = r##"`timescale 1ns/10ps
+`celldefine
+primitive udff (q, c, d, r);
+output q; reg q; input c, d, r;
+table
+  ? ? 0 : ? : 0;
+  r 0 1 : ? : 0;
+  r 1 1 : ? : 1;
+  n ? 1 : ? : -;
+  ? * 1 : ? : -;
+  ? ? p : ? : -;
+endtable
+endprimitive
+module DFFR (Q, QN, CK, D, RN);
+output Q, QN; input CK, D, RN;
+udff (q, CK, D, RN);
+buf #(0.12) (Q, q);
+not #(0.12,0.1) (QN, q);
+specify (CK => Q) = (0.2, 0.2); endspecify
+endmodule
+module XOR2 (Y, A, B);
+output Y; input A, B;
+xor #(0.07) (Y, A, B);
+endmodule
+`endcelldefine
+module count2 (q, ck, rn);
+output [1:0] q; input ck, rn;
+wire \d+1 ;
+DFFR \r[0] (.Q(q[0]), .QN(d0), .CK(ck), .D(d0), .RN(rn));
+XOR2 x (.Y(\d+1 ), .A(q[1]), .B(q[0]));
+DFFR r1 (.Q(q[1]), .QN(), .CK(ck), .D(\d+1 ), .RN(rn));
+endmodule
+"##;
+
+const COUNT2_TREE: &str =
+    "83:Module DFFR (Q,QN,CK,D,RN);97:Output Q,QN 102:Input CK,D,RN 109:udff 110(q,CK,D,RN) 120:Buf 121#(0.12) 125(Q,q) 131:Not 132#(0.12,0.1) 138(QN,q) 144:Specify 13 160:Module XOR2 (Y,A,B);170:Output Y 173:Input A,B 178:Xor 179#(0.07) 183(Y,A,B) 193:Module count2 (q,ck,rn);203:Output [1:0] q 211:Input ck,rn 216:Wire d+1 219:DFFR r[0]221(222.Q=q[0],231.QN=d0,237.CK=ck,243.D=d0,249.RN=rn) 256:XOR2 x258(259.Y=d+1,265.A=q[1],274.B=q[0]) 284:DFFR r1286(287.Q=q[1],296.QN=,301.CK=ck,307.D=d+1,313.RN=rn) 7:udff (q,c,d,r) 19:o q 22:r q 25:i c,d,r |33[??0/?/0] 41[r01/?/0] 49[r11/?/1] 57[n?1/?/-] 65[?*1/?/-] 73[??p/?/-]; 0:Timescale -9/-11; 6:Celldefine; 192:Endcelldefine;";
 
 /// The tree of a text, or its fault.
 fn parsed(alloc: Global, text: &str) -> Result<String, AllocError> {
     let mut shown = String::new(alloc);
-    if text.len() > 4096 {
+    if text.len() > 67108864 {
         return Ok(shown);
     }
     match tokens(alloc, text.as_bytes()) {
@@ -336,6 +449,60 @@ fn each_primitive_has_its_tree_or_its_refused_token(rt: HostRuntime) -> Result<(
         let shown = parsed(rt.alloc(), text)?;
         assert_eq!(rt; shown.as_str(), wanted, "of {text}");
     }
+    Ok(())
+}
+
+#[test]
+fn the_netlist_of_a_library_user(rt: HostRuntime) -> Result<(), Fail> {
+    assert_eq!(rt; parsed(rt.alloc(), COUNT2)?.as_str(), COUNT2_TREE);
+    Ok(())
+}
+
+#[test]
+fn a_long_block_is_passed_over(rt: HostRuntime) -> Result<(), Fail> {
+    let mut text = String::new(rt.alloc());
+    text.push_str("module m; specify ")?;
+    for _ in 0..1000000 {
+        text.push_str("a ")?;
+    }
+    text.push_str("endspecify tran (a, b); endmodule")?;
+    let shown = parsed(rt.alloc(), text.as_str())?;
+    assert_eq!(rt;
+        shown.as_str(),
+        "0:Module m Absent;3:Specify 1000000 1000005:Tran 1000006(a,b)"
+    );
+    Ok(())
+}
+
+/// Lists of 5,000 parts: names, concatenated picks and items.
+#[test]
+fn long_lists_are_whole(rt: HostRuntime) -> Result<(), Fail> {
+    let mut text = String::new(rt.alloc());
+    let mut wanted = String::new(rt.alloc());
+    text.push_str("module m; wire a")?;
+    wanted.push_str("0:Module m Absent;3:Wire a")?;
+    for i in 0..5000u32 {
+        write!(text, ",a{i}")?;
+        write!(wanted, ",a{i}")?;
+    }
+    text.push_str("; assign a = {b")?;
+    wanted.push_str(" 10006:Assign a={b")?;
+    for i in 0..5000u32 {
+        write!(text, ",b{i}")?;
+        write!(wanted, ",b{i}")?;
+    }
+    text.push_str("};")?;
+    wanted.push('}')?;
+    for i in 0..5000u32 {
+        let token = 20013 + 3 * i;
+        write!(text, " wire c{i};")?;
+        write!(wanted, " {token}:Wire c{i}")?;
+    }
+    text.push_str(" endmodule")?;
+    assert_eq!(rt;
+        parsed(rt.alloc(), text.as_str())?.as_str(),
+        wanted.as_str()
+    );
     Ok(())
 }
 

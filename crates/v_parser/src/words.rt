@@ -1,6 +1,7 @@
 //! What reserved words stand for.
 
 ghost use Rattle.std.specs.Prelude.{◌≡◌, is_some};
+ghost use Rattle.std.specs.Option.{option_copied};
 ghost use Rattle.v_parser.specs.Input as input;
 ghost use Rattle.v_parser.specs.Input.{Reads};
 ghost use Rattle.v_parser.specs.Words as spec;
@@ -8,8 +9,8 @@ ghost use Rattle.v_parser.specs.Words as spec;
 use crate::cursor::{Cursor, is};
 use crate::fault::ParseFault;
 use v_tree::{
-    Charge, Direction, Level, LogicGate, ModuleWord, NetType, Place, PullGate, SpreadWord,
-    Strength, Switch, TranGate,
+    Charge, Direction, Level, Location, LogicGate, ModuleWord, NetType, PullGate, Strength, Switch,
+    TranGate, VectorWord,
 };
 
 /// What some of the reserved words stand for.
@@ -24,14 +25,21 @@ pub trait Meaning: Sized + Copy {
         ensures { result ≡ stands_for word.now };
 }
 
+/// What was seen stands for, where it is one of the words.
+pub fn meant_by<M: Meaning>(seen: Option<&[u8]>) -> Option<M>
+    ensures { result ≡ spec.chosen M.stands_for (option_copied seen.entry) }
+{
+    match seen {
+        Some(word) => M::of(word),
+        None => None,
+    }
+}
+
 /// What the next token stands for, where it is one of the words.
 fn meant<M: Meaning>(cursor: &Cursor<'_>) -> Option<M>
     ensures { result ≡ spec.chosen M.stands_for (input.word_in (input.front cursor.now)) }
 {
-    match cursor.seen_word() {
-        Some(word) => M::of(word),
-        None => None,
-    }
+    meant_by::<M>(cursor.seen_word())
 }
 
 /// Whether the next token is one of the words.
@@ -41,15 +49,15 @@ pub fn sees<M: Meaning>(cursor: &Cursor<'_>) -> bool
     meant::<M>(cursor).is_some()
 }
 
-/// What the next token stands for, where it is one of the words, with its place.
-pub fn word_for<M: Meaning>(cursor: &mut Cursor<'_>) -> Result<(M, Place), ParseFault>
+/// What the next token stands for, where it is one of the words, with its location.
+pub fn word_for<M: Meaning>(cursor: &mut Cursor<'_>) -> Result<(M, Location), ParseFault>
     ensures { Reads (input.token (λ f. spec.chosen M.stands_for (input.word_in f)) cursor.old) result cursor.new }
 {
     match meant::<M>(cursor) {
         Some(found) => {
-            let place = cursor.place();
+            let location = cursor.location();
             cursor.advance();
-            Ok((found, place))
+            Ok((found, location))
         }
         None => Err(cursor.refuse()),
     }
@@ -107,17 +115,17 @@ impl Meaning for NetType {
     }
 }
 
-impl Meaning for SpreadWord {
-    ghost use Rattle.v_parser.specs.Words.{spread_of};
+impl Meaning for VectorWord {
+    ghost use Rattle.v_parser.specs.Words.{vector_word_of};
 
-    ghost stands_for = { spread_of };
+    ghost stands_for = { vector_word_of };
 
-    #[tactic(auto, unfolding(crate::specs::Words::spread_of, crate::specs::Words::spread_table))]
-    fn of(word: &[u8]) -> Option<SpreadWord> {
+    #[tactic(auto, unfolding(crate::specs::Words::vector_word_of, crate::specs::Words::vector_word_table))]
+    fn of(word: &[u8]) -> Option<VectorWord> {
         if is(word, b"vectored") {
-            Some(SpreadWord::Vectored)
+            Some(VectorWord::Vectored)
         } else if is(word, b"scalared") {
-            Some(SpreadWord::Scalared)
+            Some(VectorWord::Scalared)
         } else {
             None
         }

@@ -1,8 +1,9 @@
 -- What the names, numbers, literals, lists and concatenations of a tree keep.
-use Rattle.std.specs.Prelude.{ℕ, zero, suc, ◌<◌, ◌≤◌, ◌^◌, List, length, Option, Some, None}
+use Rattle.std.specs.Prelude.{ℕ, ℤ, pos, negsuc, ◌≤ℤ◌, zero, suc, ◌<◌, ◌≤◌, ◌^◌, List, length, Option, Some, None}
 use Rattle.std.specs.List.{AllByRecursion}
 use Rattle.v_lexer.specs.declared.values.Literal.{Literal}
-use Rattle.v_tree.specs.declared.places.Name.{Name}
+use Rattle.v_lexer.specs.declared.values.DecimalDigits.{DecimalDigits}
+use Rattle.v_tree.specs.declared.locations.Name.{Name}
 use Rattle.v_tree.specs.declared.expressions.Range.{Range}
 use Rattle.v_tree.specs.declared.expressions.Select.{Select}
 use Rattle.v_tree.specs.declared.expressions.Pick.{Pick}
@@ -10,12 +11,17 @@ use Rattle.v_tree.specs.declared.expressions.Expr.{Expr, out-Expr}
 use Rattle.v_tree.specs.declared.expressions.Expr.TheOpen.{Expr-F}
 use Rattle.v_tree.specs.declared.expressions.Target.{Target, out-Target}
 use Rattle.v_tree.specs.declared.expressions.Target.TheOpen.{Target-F}
+use Rattle.v_tree.specs.declared.drives.Amount.{Amount}
+use Rattle.v_tree.specs.declared.drives.Amount.TheVariants as amounts
 use Rattle.v_tree.specs.declared.drives.DelayValue.{DelayValue}
 use Rattle.v_tree.specs.declared.drives.DelayValue.TheVariants.{One, Three}
 use Rattle.v_tree.specs.declared.drives.Delay.{Delay}
 use Rattle.v_tree.specs.declared.drives.Delay.TheVariants as delays
 use Rattle.v_tree.specs.declared.drives.DelaySpec.{DelaySpec}
-use Rattle.v_tree.specs.declared.declarations.Spread.{Spread}
+use Rattle.v_tree.specs.declared.directives.Timescale.{Timescale}
+use Rattle.v_tree.specs.declared.directives.Directive.{Directive}
+use Rattle.v_tree.specs.declared.directives.Directive.TheVariants as directives
+use Rattle.v_tree.specs.declared.declarations.VectorRange.{VectorRange}
 use Rattle.v_tree.specs.declared.declarations.PortDecl.{PortDecl}
 use Rattle.v_tree.specs.declared.declarations.ValuedName.{ValuedName}
 use Rattle.v_tree.specs.declared.declarations.Declared.{Declared}
@@ -38,6 +44,7 @@ use Rattle.v_tree.specs.declared.modules.AnsiEntry.{AnsiEntry}
 use Rattle.v_tree.specs.declared.modules.AnsiEntry.TheVariants as entry
 use Rattle.v_tree.specs.declared.modules.Ports.{Ports}
 use Rattle.v_tree.specs.declared.modules.Ports.TheVariants as ports
+use Rattle.v_tree.specs.declared.modules.SpecifyBlock.{SpecifyBlock}
 use Rattle.v_tree.specs.declared.modules.Item.{Item}
 use Rattle.v_tree.specs.declared.modules.Item.TheVariants as item
 use Rattle.v_tree.specs.declared.modules.Module.{Module}
@@ -54,7 +61,7 @@ use Rattle.v_tree.specs.declared.primitives.UdpInitial.{UdpInitial}
 use Rattle.v_tree.specs.declared.primitives.PlacedRow.{PlacedRow}
 use Rattle.v_tree.specs.declared.primitives.UdpDecl.{UdpDecl}
 use Rattle.udp_table.specs.declared.rows.UdpRow.{UdpRow}
-use Rattle.v_tree.specs.Written.{Form, Name as NameForm, Word, Number, Based, Mark, Symbol, End, Other}
+use Rattle.v_tree.specs.Written.{Form, Name as NameForm, Word, Number, Decimal, Based, Directive as DirectiveForm, Mark, Symbol, End, Other}
 
 abbrev pub IsVisible : ℕ → Type 0
 IsVisible byte = (33 ≤ byte) × (byte ≤ 126)
@@ -73,17 +80,6 @@ pub record IsLiteral (literal : Literal) : Type 0 where
   pub some : 0 < length literal.bits
   pub few : length literal.bits ≤ 128
 
--- what a token says is what a tree may keep
-abbrev pub IsSoundForm : Form → Type 0
-IsSoundForm (NameForm text) = IsNameText text
-IsSoundForm (Word word) = Unit {0}
-IsSoundForm (Number n) = IsNumber n
-IsSoundForm (Based literal) = IsLiteral literal
-IsSoundForm (Mark byte) = Unit {0}
-IsSoundForm (Symbol byte) = Unit {0}
-IsSoundForm End = Unit {0}
-IsSoundForm Other = Unit {0}
-
 -- a list keeps what each of its entries keeps, and has fewer than 2^32
 pub record AreFit {A : Type 0} (IsFit : A → Type 0) (xs : List A) : Type 0 where
   pub few : length xs < 2 ^ 32
@@ -93,6 +89,28 @@ pub record AreFit {A : Type 0} (IsFit : A → Type 0) (xs : List A) : Type 0 whe
 pub record AreSome {A : Type 0} (IsFit : A → Type 0) (xs : List A) : Type 0 where
   pub some : 0 < length xs
   pub fit : AreFit IsFit xs
+
+-- a digit is from 0 to 9
+abbrev pub IsDigit : ℕ → Type 0
+IsDigit digit = digit < 10
+
+-- a decimal has digits before and behind its `.`
+pub record IsFitDecimal (decimal : DecimalDigits) : Type 0 where
+  pub whole : AreSome IsDigit decimal.whole
+  pub fraction : AreSome IsDigit decimal.fraction
+
+-- what a token says is what a tree may keep
+abbrev pub IsSoundForm : Form → Type 0
+IsSoundForm (NameForm text) = IsNameText text
+IsSoundForm (Word word) = Unit {0}
+IsSoundForm (Number n) = IsNumber n
+IsSoundForm (Decimal decimal) = IsFitDecimal decimal
+IsSoundForm (Based literal) = IsLiteral literal
+IsSoundForm (DirectiveForm bytes) = Unit {0}
+IsSoundForm (Mark byte) = Unit {0}
+IsSoundForm (Symbol byte) = Unit {0}
+IsSoundForm End = Unit {0}
+IsSoundForm Other = Unit {0}
 
 -- a part that isn't there keeps all
 abbrev pub IsFitIfThere : {A : Type 0} → (A → Type 0) → Option A → Type 0
@@ -120,9 +138,9 @@ IsFitPick p = IsFitName p.name × IsFitIfThere IsFitSelect p.select
 -- one layer of an expression, with what its parts keep
 abbrev pub IsFitExprLayer : (List Expr → Type 0) → Expr-F Expr → Type 0
 IsFitExprLayer AreParts (Expr-F.Pick p) = IsFitPick p
-IsFitExprLayer AreParts (Expr-F.Number place n) = IsNumber n
-IsFitExprLayer AreParts (Expr-F.Based place literal) = IsLiteral literal
-IsFitExprLayer AreParts (Expr-F.Concat place parts) = AreParts parts
+IsFitExprLayer AreParts (Expr-F.Number location n) = IsNumber n
+IsFitExprLayer AreParts (Expr-F.Based location literal) = IsLiteral literal
+IsFitExprLayer AreParts (Expr-F.Concat location parts) = AreParts parts
 
 -- an expression whose concatenations stand so deep in one another at most
 abbrev pub IsFitExprAt : ℕ → Expr → Type 0
@@ -135,7 +153,7 @@ IsFitExpr e = IsFitExprAt 64 e
 
 abbrev pub IsFitTargetLayer : (List Target → Type 0) → Target-F Target → Type 0
 IsFitTargetLayer AreParts (Target-F.Pick p) = IsFitPick p
-IsFitTargetLayer AreParts (Target-F.Concat place parts) = AreParts parts
+IsFitTargetLayer AreParts (Target-F.Concat location parts) = AreParts parts
 
 abbrev pub IsFitTargetAt : ℕ → Target → Type 0
 IsFitTargetAt zero t = IsFitTargetLayer (λ parts. ⊥) (out-Target t)
@@ -146,12 +164,16 @@ IsFitTarget t = IsFitTargetAt 64 t
 
 -- ---- delays
 
+abbrev pub IsFitAmount : Amount → Type 0
+IsFitAmount (amounts.Number n) = IsNumber n
+IsFitAmount (amounts.Decimal digits) = IsFitDecimal digits
+
 abbrev pub IsFitDelayValue : DelayValue → Type 0
-IsFitDelayValue (One n) = IsNumber n
-IsFitDelayValue (Three a b c) = IsNumber a × IsNumber b × IsNumber c
+IsFitDelayValue (One a) = IsFitAmount a
+IsFitDelayValue (Three a b c) = IsFitAmount a × IsFitAmount b × IsFitAmount c
 
 abbrev pub IsFitDelay : Delay → Type 0
-IsFitDelay (delays.Number n) = IsNumber n
+IsFitDelay (delays.Amount a) = IsFitAmount a
 IsFitDelay (delays.Values values) = AreSome IsFitDelayValue values
 
 abbrev pub IsFitDelaySpec : DelaySpec → Type 0
@@ -163,8 +185,8 @@ pub record IsFitPortDecl (d : PortDecl) : Type 0 where
   pub range : IsFitIfThere IsFitRange d.range
   pub names : AreSome IsFitName d.names
 
-abbrev pub IsFitSpread : Spread → Type 0
-IsFitSpread s = IsFitRange s.range
+abbrev pub IsFitVectorRange : VectorRange → Type 0
+IsFitVectorRange s = IsFitRange s.range
 
 abbrev pub IsFitValuedName : ValuedName → Type 0
 IsFitValuedName v = IsFitName v.name × IsFitExpr v.value
@@ -174,12 +196,12 @@ IsFitDeclared (declares.Names names) = AreSome IsFitName names
 IsFitDeclared (declares.Valued names) = AreSome IsFitValuedName names
 
 pub record IsFitNetDecl (d : NetDecl) : Type 0 where
-  pub spread : IsFitIfThere IsFitSpread d.spread
+  pub vector_range : IsFitIfThere IsFitVectorRange d.vector_range
   pub delay : IsFitIfThere IsFitDelaySpec d.delay
   pub declared : IsFitDeclared d.declared
 
 pub record IsFitTriregDecl (d : TriregDecl) : Type 0 where
-  pub spread : IsFitIfThere IsFitSpread d.spread
+  pub vector_range : IsFitIfThere IsFitVectorRange d.vector_range
   pub delay : IsFitIfThere IsFitDelaySpec d.delay
   pub names : AreSome IsFitName d.names
 
@@ -223,7 +245,28 @@ pub record IsFitInstance (i : Instance) : Type 0 where
   pub delay : IsFitIfThere IsFitDelaySpec i.delay
   pub instances : AreSome IsFitInst i.instances
 
+-- ---- directives
+
+-- a scale is from 100 s to 1 fs
+pub record IsScale (power : ℤ) : Type 0 where
+  pub low : negsuc 14 ≤ℤ power
+  pub high : power ≤ℤ pos 2
+
+pub record IsFitTimescale (t : Timescale) : Type 0 where
+  pub unit : IsScale t.unit
+  pub precision : IsScale t.precision
+
+abbrev pub IsFitDirective : Directive → Type 0
+IsFitDirective (directives.Timescale t) = IsFitTimescale t
+IsFitDirective (directives.DefaultNettype d) = Unit {0}
+IsFitDirective (directives.Resetall location) = Unit {0}
+IsFitDirective (directives.Cell c) = Unit {0}
+
 -- ---- modules
+
+-- the tokens inside a block are a list as any other
+abbrev pub IsFitBlock : SpecifyBlock → Type 0
+IsFitBlock b = b.token_count < 2 ^ 32
 
 abbrev pub IsFitItem : Item → Type 0
 IsFitItem (item.Ports d) = IsFitPortDecl d
@@ -232,6 +275,8 @@ IsFitItem (item.Trireg d) = IsFitTriregDecl d
 IsFitItem (item.Assign a) = IsFitAssignItem a
 IsFitItem (item.Gates g) = IsFitGateItem g
 IsFitItem (item.Instances i) = IsFitInstance i
+IsFitItem (item.Cell c) = Unit {0}
+IsFitItem (item.Specify b) = IsFitBlock b
 
 pub record IsFitAnsiPort (p : AnsiPort) : Type 0 where
   pub range : IsFitIfThere IsFitRange p.range
@@ -255,8 +300,8 @@ pub record IsFitModule (m : Module) : Type 0 where
 -- ---- primitives
 
 abbrev pub IsFitLit : Lit → Type 0
-IsFitLit (literal.Number place n) = IsNumber n
-IsFitLit (literal.Based place based) = IsLiteral based
+IsFitLit (literal.Number location n) = IsNumber n
+IsFitLit (literal.Based location based) = IsLiteral based
 
 abbrev pub IsFitUdpInput : UdpInput → Type 0
 IsFitUdpInput i = IsFitName i.name
@@ -272,9 +317,9 @@ IsFitUdpPorts (udp_ports.Names names) = AreSome IsFitName names
 IsFitUdpPorts (udp_ports.Declared is_reg output value inputs) = IsFitUdpHead output value inputs
 
 abbrev pub IsFitUdpItem : UdpItem → Type 0
-IsFitUdpItem (udp_item.Output place is_reg output value) = IsFitName output × IsFitIfThere IsFitLit value
-IsFitUdpItem (udp_item.Input place names) = AreSome IsFitName names
-IsFitUdpItem (udp_item.Reg place n) = IsFitName n
+IsFitUdpItem (udp_item.Output location is_reg output value) = IsFitName output × IsFitIfThere IsFitLit value
+IsFitUdpItem (udp_item.Input location names) = AreSome IsFitName names
+IsFitUdpItem (udp_item.Reg location n) = IsFitName n
 
 abbrev pub IsFitUdpInitial : UdpInitial → Type 0
 IsFitUdpInitial i = IsFitName i.name × IsFitLit i.value
@@ -298,8 +343,10 @@ pub record IsFitUdp (u : UdpDecl) : Type 0 where
 abbrev pub IsFitDescription : Description → Type 0
 IsFitDescription (described.Module m) = IsFitModule m
 IsFitDescription (described.Udp u) = IsFitUdp u
+IsFitDescription (described.Directive d) = IsFitDirective d
 
 -- the lists of a file keep what they have to
-pub record AreFitLists (ms : List Module) (us : List UdpDecl) : Type 0 where
+pub record AreFitLists (ms : List Module) (us : List UdpDecl) (ds : List Directive) : Type 0 where
   pub modules : AreFit IsFitModule ms
   pub udps : AreFit IsFitUdp us
+  pub directives : AreFit IsFitDirective ds

@@ -1,7 +1,7 @@
--- The tokens with which each part of a tree is written. A token is bare where the tree doesn't keep its place.
-use Rattle.std.specs.Prelude.{ℕ, Bool, true, false, List, [], ◌∷◌, ◌++◌, codes, Option, Some, None}
-use Rattle.v_tree.specs.declared.places.Place.{Place}
-use Rattle.v_tree.specs.declared.places.Name.{Name}
+-- The tokens with which each part of a tree is written. A token is bare where the tree doesn't keep its location.
+use Rattle.std.specs.Prelude.{ℕ, ℤ, replicate, Bool, true, false, List, [], ◌∷◌, ◌++◌, codes, Option, Some, None}
+use Rattle.v_tree.specs.declared.locations.Location.{Location}
+use Rattle.v_tree.specs.declared.locations.Name.{Name}
 use Rattle.v_tree.specs.declared.expressions.Range.{Range}
 use Rattle.v_tree.specs.declared.expressions.Select.{Select}
 use Rattle.v_tree.specs.declared.expressions.Pick.{Pick}
@@ -12,17 +12,25 @@ use Rattle.v_tree.specs.declared.expressions.Target.{Target}
 use Rattle.v_tree.specs.declared.expressions.Target.TheOpen.{Target-F}
 use Rattle.v_tree.specs.declared.expressions.Target.TheFolds.{fold-Target}
 use Rattle.v_tree.specs.declared.drives.Level.{Level}
-use Rattle.v_tree.specs.declared.drives.Drive.{Drive}
+use Rattle.v_tree.specs.declared.drives.DriveStrength.{DriveStrength}
 use Rattle.v_tree.specs.declared.drives.PullLevels.{PullLevels}
 use Rattle.v_tree.specs.declared.drives.Charge.{Charge}
+use Rattle.v_tree.specs.declared.drives.Amount.{Amount}
+use Rattle.v_tree.specs.declared.drives.Amount.TheVariants as amounts
 use Rattle.v_tree.specs.declared.drives.DelayValue.{DelayValue}
 use Rattle.v_tree.specs.declared.drives.DelayValue.TheVariants.{One, Three}
 use Rattle.v_tree.specs.declared.drives.Delay.{Delay}
 use Rattle.v_tree.specs.declared.drives.Delay.TheVariants as delays
 use Rattle.v_tree.specs.declared.drives.DelaySpec.{DelaySpec}
+use Rattle.v_tree.specs.declared.directives.CellDirective.{CellDirective}
+use Rattle.v_tree.specs.declared.directives.Timescale.{Timescale}
+use Rattle.v_tree.specs.declared.directives.ImplicitNetType.{ImplicitNetType}
+use Rattle.v_tree.specs.declared.directives.DefaultNettype.{DefaultNettype}
+use Rattle.v_tree.specs.declared.directives.Directive.{Directive}
+use Rattle.v_tree.specs.declared.directives.Directive.TheVariants as directives
 use Rattle.v_tree.specs.declared.declarations.NetType.{NetType}
-use Rattle.v_tree.specs.declared.declarations.SpreadWord.{SpreadWord}
-use Rattle.v_tree.specs.declared.declarations.Spread.{Spread}
+use Rattle.v_tree.specs.declared.declarations.VectorWord.{VectorWord}
+use Rattle.v_tree.specs.declared.declarations.VectorRange.{VectorRange}
 use Rattle.v_tree.specs.declared.declarations.PortDecl.{PortDecl}
 use Rattle.v_tree.specs.declared.declarations.ValuedName.{ValuedName}
 use Rattle.v_tree.specs.declared.declarations.Declared.{Declared}
@@ -45,6 +53,7 @@ use Rattle.v_tree.specs.declared.modules.AnsiEntry.{AnsiEntry}
 use Rattle.v_tree.specs.declared.modules.AnsiEntry.TheVariants as entry
 use Rattle.v_tree.specs.declared.modules.Ports.{Ports}
 use Rattle.v_tree.specs.declared.modules.Ports.TheVariants as ports
+use Rattle.v_tree.specs.declared.modules.SpecifyBlock.{SpecifyBlock}
 use Rattle.v_tree.specs.declared.modules.Item.{Item}
 use Rattle.v_tree.specs.declared.modules.Item.TheVariants as item
 use Rattle.v_tree.specs.declared.modules.Module.{Module}
@@ -64,27 +73,27 @@ use Rattle.udp_table.specs.declared.symbols.Sym.{Sym}
 use Rattle.udp_table.specs.declared.symbols.Sym.TheVariants as sym
 use Rattle.udp_table.specs.declared.rows.UdpRow.{UdpRow}
 use Rattle.v_tree.specs.Written as form
-use Rattle.v_tree.specs.Written.{Written, at, bare, placed_first, written_if_there, behind_commas, between_commas, one_by_one}
-use Rattle.v_tree.specs.Words.{direction_word, net_type_word, spread_word, charge_word, logic_word, switch_word, tran_word, pull_word, opening_word, level_word, base_symbol, sym_symbol}
+use Rattle.v_tree.specs.Written.{Form, Written, Spelled, Exactly, Inside, exactly, at, bare, placed_first, written_if_there, behind_commas, between_commas, one_by_one}
+use Rattle.v_tree.specs.Words.{direction_word, net_type_word, vector_word, charge_word, logic_word, switch_word, tran_word, pull_word, opening_word, level_word, base_symbol, sym_symbol, cell_word, implicit_net_type_word, unit_count, unit_name}
 
 -- a mark, and a word
 abbrev pub mark : ℕ → Written
 mark byte = bare (form.Mark byte)
 
-abbrev pub placed_mark : Place → ℕ → Written
-placed_mark place byte = at place (form.Mark byte)
+abbrev pub placed_mark : Location → ℕ → Written
+placed_mark location byte = at location (form.Mark byte)
 
 abbrev pub word : List ℕ → Written
 word bytes = bare (form.Word bytes)
 
-abbrev pub placed_word : Place → List ℕ → Written
-placed_word place bytes = at place (form.Word bytes)
+abbrev pub placed_word : Location → List ℕ → Written
+placed_word location bytes = at location (form.Word bytes)
 
 abbrev pub number : ℕ → Written
 number n = bare (form.Number n)
 
 abbrev pub name : Name → List Written
-name n = at n.place (form.Name n.text) ∷ []
+name n = at n.location (form.Name n.text) ∷ []
 
 -- ---- expressions
 
@@ -104,15 +113,15 @@ abbrev pub pick : Pick → List Written
 pick p = name p.name ++ written_if_there select p.select
 
 -- parts in braces
-abbrev pub concat : Place → List (List Written) → List Written
-concat place parts = placed_mark place 123 ∷ (between_commas (λ part. part) parts ++ mark 125 ∷ [])
+abbrev pub concat : Location → List (List Written) → List Written
+concat location parts = placed_mark location 123 ∷ (between_commas (λ part. part) parts ++ mark 125 ∷ [])
 
 -- one layer of an expression, with what its parts are written with
 abbrev pub expr_layer : Expr-F (List Written) → List Written
 expr_layer (Expr-F.Pick p) = pick p
-expr_layer (Expr-F.Number place n) = at place (form.Number n) ∷ []
-expr_layer (Expr-F.Based place literal) = at place (form.Based literal) ∷ []
-expr_layer (Expr-F.Concat place parts) = concat place parts
+expr_layer (Expr-F.Number location n) = at location (form.Number n) ∷ []
+expr_layer (Expr-F.Based location literal) = at location (form.Based literal) ∷ []
+expr_layer (Expr-F.Concat location parts) = concat location parts
 
 abbrev pub expr : Expr → List Written
 expr = fold-Expr (List Written) expr_layer
@@ -120,7 +129,7 @@ expr = fold-Expr (List Written) expr_layer
 -- one layer of a target, with what its parts are written with
 abbrev pub target_layer : Target-F (List Written) → List Written
 target_layer (Target-F.Pick p) = pick p
-target_layer (Target-F.Concat place parts) = concat place parts
+target_layer (Target-F.Concat location parts) = concat location parts
 
 abbrev pub target : Target → List Written
 target = fold-Target (List Written) target_layer
@@ -131,8 +140,8 @@ abbrev pub level : Level → Written
 level l = word (level_word l)
 
 -- `( level , level )`
-abbrev pub drive : Drive → List Written
-drive d = placed_mark d.place 40 ∷ level d.first ∷ mark 44 ∷ level d.second ∷ mark 41 ∷ []
+abbrev pub drive : DriveStrength → List Written
+drive d = placed_mark d.location 40 ∷ level d.first ∷ mark 44 ∷ level d.second ∷ mark 41 ∷ []
 
 -- `, level`
 abbrev pub second_level : Level → List Written
@@ -140,24 +149,32 @@ second_level l = mark 44 ∷ level l ∷ []
 
 -- `( level )` or `( level , level )`
 abbrev pub pull_levels : PullLevels → List Written
-pull_levels p = placed_mark p.place 40 ∷ level p.first ∷ (written_if_there second_level p.second ++ mark 41 ∷ [])
+pull_levels p = placed_mark p.location 40 ∷ level p.first ∷ (written_if_there second_level p.second ++ mark 41 ∷ [])
 
 -- `( charge )`
 abbrev pub charge : Charge → List Written
 charge c = mark 40 ∷ word (charge_word c) ∷ mark 41 ∷ []
 
--- a number, or three with `:` between
+-- what the token of an amount says
+abbrev pub amount_form : Amount → Form
+amount_form (amounts.Number n) = form.Number n
+amount_form (amounts.Decimal digits) = form.Decimal digits
+
+abbrev pub amount : Amount → Written
+amount a = bare (amount_form a)
+
+-- an amount, or three with `:` between
 abbrev pub delay_value : DelayValue → List Written
-delay_value (One n) = number n ∷ []
-delay_value (Three a b c) = number a ∷ mark 58 ∷ number b ∷ mark 58 ∷ number c ∷ []
+delay_value (One a) = amount a ∷ []
+delay_value (Three a b c) = amount a ∷ mark 58 ∷ amount b ∷ mark 58 ∷ amount c ∷ []
 
 abbrev pub delay : Delay → List Written
-delay (delays.Number n) = number n ∷ []
+delay (delays.Amount a) = amount a ∷ []
 delay (delays.Values values) = mark 40 ∷ (between_commas delay_value values ++ mark 41 ∷ [])
 
 -- `# delay`
 abbrev pub delay_spec : DelaySpec → List Written
-delay_spec d = placed_mark d.place 35 ∷ delay d.delay
+delay_spec d = placed_mark d.location 35 ∷ delay d.delay
 
 -- ---- declarations
 
@@ -166,13 +183,13 @@ net_type t = word (net_type_word t) ∷ []
 
 -- `dir [ nettype ] [ range ] Name , .. ;`
 abbrev pub port_decl : PortDecl → List Written
-port_decl d = placed_word d.place (direction_word d.direction) ∷ (written_if_there net_type d.net_type ++ (written_if_there range d.range ++ (between_commas name d.names ++ mark 59 ∷ [])))
+port_decl d = placed_word d.location (direction_word d.direction) ∷ (written_if_there net_type d.net_type ++ (written_if_there range d.range ++ (between_commas name d.names ++ mark 59 ∷ [])))
 
-abbrev pub spread_before : SpreadWord → List Written
-spread_before w = word (spread_word w) ∷ []
+abbrev pub word_before_range : VectorWord → List Written
+word_before_range w = word (vector_word w) ∷ []
 
-abbrev pub spread : Spread → List Written
-spread s = written_if_there spread_before s.word ++ range s.range
+abbrev pub vector_range : VectorRange → List Written
+vector_range s = written_if_there word_before_range s.word ++ range s.range
 
 -- `Name = expr`
 abbrev pub valued_name : ValuedName → List Written
@@ -182,15 +199,15 @@ abbrev pub declared : Declared → List Written
 declared (declares.Names names) = between_commas name names
 declared (declares.Valued names) = between_commas valued_name names
 
--- `nettype [ drive ] [ spread ] [ delay ] declared ;`
+-- `nettype [ drive ] [ vector_range ] [ delay ] declared ;`
 abbrev pub net_decl : NetDecl → List Written
-net_decl d = placed_word d.place (net_type_word d.net_type)
-    ∷ (written_if_there drive d.drive ++ (written_if_there spread d.spread ++ (written_if_there delay_spec d.delay ++ (declared d.declared ++ mark 59 ∷ []))))
+net_decl d = placed_word d.location (net_type_word d.net_type)
+    ∷ (written_if_there drive d.drive ++ (written_if_there vector_range d.vector_range ++ (written_if_there delay_spec d.delay ++ (declared d.declared ++ mark 59 ∷ []))))
 
--- `trireg [ charge ] [ spread ] [ delay ] Name , .. ;`
+-- `trireg [ charge ] [ vector_range ] [ delay ] Name , .. ;`
 abbrev pub trireg_decl : TriregDecl → List Written
-trireg_decl d = placed_word d.place (codes "trireg")
-    ∷ (written_if_there charge d.charge ++ (written_if_there spread d.spread ++ (written_if_there delay_spec d.delay ++ (between_commas name d.names ++ mark 59 ∷ []))))
+trireg_decl d = placed_word d.location (codes "trireg")
+    ∷ (written_if_there charge d.charge ++ (written_if_there vector_range d.vector_range ++ (written_if_there delay_spec d.delay ++ (between_commas name d.names ++ mark 59 ∷ []))))
 
 -- `target = expr`
 abbrev pub pair : Pair → List Written
@@ -198,7 +215,7 @@ pair p = target p.target ++ mark 61 ∷ expr p.value
 
 -- `assign [ drive ] [ delay ] pair , .. ;`
 abbrev pub assign_item : AssignItem → List Written
-assign_item a = placed_word a.place (codes "assign") ∷ (written_if_there drive a.drive ++ (written_if_there delay_spec a.delay ++ (between_commas pair a.pairs ++ mark 59 ∷ [])))
+assign_item a = placed_word a.location (codes "assign") ∷ (written_if_there drive a.drive ++ (written_if_there delay_spec a.delay ++ (between_commas pair a.pairs ++ mark 59 ∷ [])))
 
 -- ---- gates and instances
 
@@ -207,19 +224,19 @@ abbrev pub terms : Terms → List Written
 terms t = written_if_there name t.name ++ placed_mark t.paren 40 ∷ (between_commas expr t.terminals ++ mark 41 ∷ [])
 
 -- the word of a kind of gates, and what stands before the terminals
-abbrev pub gate_head : Place → GateKind → List Written
-gate_head place (gate.Logic kind strength time) = placed_word place (logic_word kind) ∷ (written_if_there drive strength ++ written_if_there delay_spec time)
-gate_head place (gate.Switch kind time) = placed_word place (switch_word kind) ∷ written_if_there delay_spec time
-gate_head place (gate.Tran kind) = placed_word place (tran_word kind) ∷ []
-gate_head place (gate.Pull kind levels) = placed_word place (pull_word kind) ∷ written_if_there pull_levels levels
+abbrev pub gate_head : Location → GateKind → List Written
+gate_head location (gate.Logic kind strength time) = placed_word location (logic_word kind) ∷ (written_if_there drive strength ++ written_if_there delay_spec time)
+gate_head location (gate.Switch kind time) = placed_word location (switch_word kind) ∷ written_if_there delay_spec time
+gate_head location (gate.Tran kind) = placed_word location (tran_word kind) ∷ []
+gate_head location (gate.Pull kind levels) = placed_word location (pull_word kind) ∷ written_if_there pull_levels levels
 
 -- `kind terms , .. ;`
 abbrev pub gate_item : GateItem → List Written
-gate_item g = gate_head g.place g.kind ++ (between_commas terms g.gates ++ mark 59 ∷ [])
+gate_item g = gate_head g.location g.kind ++ (between_commas terms g.gates ++ mark 59 ∷ [])
 
 -- `. Name ( [ expr ] )`
 abbrev pub connection : Connection → List Written
-connection c = placed_mark c.place 46 ∷ (name c.port ++ mark 40 ∷ (written_if_there expr c.value ++ mark 41 ∷ []))
+connection c = placed_mark c.location 46 ∷ (name c.port ++ mark 40 ∷ (written_if_there expr c.value ++ mark 41 ∷ []))
 
 abbrev pub connections : Connections → List Written
 connections (ByPlace values) = between_commas (written_if_there expr) values
@@ -233,19 +250,57 @@ inst i = written_if_there name i.name ++ placed_mark i.paren 40 ∷ (connections
 abbrev pub instance : Instance → List Written
 instance i = name i.name ++ (written_if_there drive i.drive ++ (written_if_there delay_spec i.delay ++ (between_commas inst i.instances ++ mark 59 ∷ [])))
 
+-- ---- directives
+
+abbrev pub placed_directive : Location → List ℕ → Written
+placed_directive location bytes = at location (form.Directive bytes)
+
+-- `` `celldefine `` or `` `endcelldefine ``
+abbrev pub cell : CellDirective → List Written
+cell c = placed_directive c.location (cell_word c.word) ∷ []
+
+-- a number and a unit
+abbrev pub scale : ℤ → List Written
+scale power = number (unit_count power) ∷ bare (form.Name (unit_name power)) ∷ []
+
+-- `` `timescale unit / precision ``
+abbrev pub timescale : Timescale → List Written
+timescale t = placed_directive t.location (codes "`timescale") ∷ (scale t.unit ++ mark 47 ∷ scale t.precision)
+
+-- what the token of a default type says
+abbrev pub default_form : Option ImplicitNetType → Form
+default_form None = form.Name (codes "none")
+default_form (Some t) = form.Word (implicit_net_type_word t)
+
+-- `` `default_nettype `` and a type or `none`
+abbrev pub default_nettype : DefaultNettype → List Written
+default_nettype d = placed_directive d.location (codes "`default_nettype") ∷ bare (default_form d.net_type) ∷ []
+
+abbrev pub directive : Directive → List Written
+directive (directives.Timescale t) = timescale t
+directive (directives.DefaultNettype d) = default_nettype d
+directive (directives.Resetall location) = placed_directive location (codes "`resetall") ∷ []
+directive (directives.Cell c) = cell c
+
 -- ---- modules
 
-abbrev pub module_item : Item → List Written
-module_item (item.Ports d) = port_decl d
-module_item (item.Nets d) = net_decl d
-module_item (item.Trireg d) = trireg_decl d
-module_item (item.Assign a) = assign_item a
-module_item (item.Gates g) = gate_item g
-module_item (item.Instances i) = instance i
+-- `specify { any token but endspecify and the end } endspecify`
+abbrev pub specify_block : SpecifyBlock → List Spelled
+specify_block b = Exactly (placed_word b.location (codes "specify")) ∷ (replicate b.token_count Inside ++ exactly (word (codes "endspecify") ∷ []))
+
+abbrev pub module_item : Item → List Spelled
+module_item (item.Ports d) = exactly (port_decl d)
+module_item (item.Nets d) = exactly (net_decl d)
+module_item (item.Trireg d) = exactly (trireg_decl d)
+module_item (item.Assign a) = exactly (assign_item a)
+module_item (item.Gates g) = exactly (gate_item g)
+module_item (item.Instances i) = exactly (instance i)
+module_item (item.Cell c) = exactly (cell c)
+module_item (item.Specify b) = specify_block b
 
 -- `dir [ nettype ] [ range ] Name`
 abbrev pub ansi_port : AnsiPort → List Written
-ansi_port p = placed_word p.place (direction_word p.direction) ∷ (written_if_there net_type p.net_type ++ (written_if_there range p.range ++ name p.name))
+ansi_port p = placed_word p.location (direction_word p.direction) ∷ (written_if_there net_type p.net_type ++ (written_if_there range p.range ++ name p.name))
 
 abbrev pub ansi_entry : AnsiEntry → List Written
 ansi_entry (entry.Port p) = ansi_port p
@@ -258,10 +313,13 @@ header_ports ports.Empty = mark 40 ∷ mark 41 ∷ []
 header_ports (ports.Names names) = mark 40 ∷ (between_commas name names ++ mark 41 ∷ [])
 header_ports (ports.Ansi first others) = mark 40 ∷ (ansi_port first ++ (behind_commas ansi_entry others ++ mark 41 ∷ []))
 
+-- `module Name [ ports ] ;`
+abbrev pub module_head : Module → List Written
+module_head m = placed_word m.location (opening_word m.word) ∷ (name m.name ++ (header_ports m.ports ++ mark 59 ∷ []))
+
 -- `module Name [ ports ] ; { item } endmodule`
-abbrev pub module_spelling : Module → List Written
-module_spelling m = placed_word m.place (opening_word m.word)
-    ∷ (name m.name ++ (header_ports m.ports ++ mark 59 ∷ (one_by_one module_item m.items ++ word (codes "endmodule") ∷ [])))
+abbrev pub module_spelling : Module → List Spelled
+module_spelling m = exactly (module_head m) ++ (one_by_one module_item m.items ++ exactly (word (codes "endmodule") ∷ []))
 
 -- ---- primitives
 
@@ -274,8 +332,8 @@ abbrev pub symbol : ℕ → Written
 symbol byte = bare (form.Symbol byte)
 
 abbrev pub lit : Lit → List Written
-lit (literal.Number place n) = at place (form.Number n) ∷ []
-lit (literal.Based place based) = at place (form.Based based) ∷ []
+lit (literal.Number location n) = at location (form.Number n) ∷ []
+lit (literal.Based location based) = at location (form.Based based) ∷ []
 
 -- `= lit`
 abbrev pub start : Lit → List Written
@@ -293,14 +351,14 @@ udp_header (udp_ports.Declared is_reg output value inputs) =
 
 -- a declaration
 abbrev pub udp_decl : UdpItem → List Written
-udp_decl (udp_item.Output place is_reg output value) =
-    placed_word place (codes "output") ∷ (word_if_there (codes "reg") is_reg ++ (name output ++ (written_if_there start value ++ mark 59 ∷ [])))
-udp_decl (udp_item.Input place names) = placed_word place (codes "input") ∷ (between_commas name names ++ mark 59 ∷ [])
-udp_decl (udp_item.Reg place n) = placed_word place (codes "reg") ∷ (name n ++ mark 59 ∷ [])
+udp_decl (udp_item.Output location is_reg output value) =
+    placed_word location (codes "output") ∷ (word_if_there (codes "reg") is_reg ++ (name output ++ (written_if_there start value ++ mark 59 ∷ [])))
+udp_decl (udp_item.Input location names) = placed_word location (codes "input") ∷ (between_commas name names ++ mark 59 ∷ [])
+udp_decl (udp_item.Reg location n) = placed_word location (codes "reg") ∷ (name n ++ mark 59 ∷ [])
 
 -- `initial Name = lit ;`
 abbrev pub udp_initial : UdpInitial → List Written
-udp_initial i = placed_word i.place (codes "initial") ∷ (name i.name ++ mark 61 ∷ (lit i.value ++ mark 59 ∷ []))
+udp_initial i = placed_word i.location (codes "initial") ∷ (name i.name ++ mark 61 ∷ (lit i.value ++ mark 59 ∷ []))
 
 -- a symbol, or two values in parentheses
 abbrev pub field : Sym → List Written
@@ -317,7 +375,7 @@ abbrev pub row : UdpRow → List Written
 row r = one_by_one field r.ins ++ symbol 58 ∷ (outcome r.state r.out ++ symbol 59 ∷ [])
 
 abbrev pub placed_row : PlacedRow → List Written
-placed_row r = placed_first r.place (row r.row)
+placed_row r = placed_first r.location (row r.row)
 
 -- `table { row } endtable`
 abbrev pub table : List PlacedRow → List Written
@@ -325,15 +383,16 @@ table rows = word (codes "table") ∷ (one_by_one placed_row rows ++ word (codes
 
 -- `primitive Name ( ports ) ; { declaration } [ initial ] table { row } endtable endprimitive`
 abbrev pub udp : UdpDecl → List Written
-udp u = placed_word u.place (codes "primitive")
+udp u = placed_word u.location (codes "primitive")
     ∷ (name u.name ++ (udp_header u.ports ++ mark 59 ∷ (one_by_one udp_decl u.items ++ (written_if_there udp_initial u.initial ++ (table u.rows ++ word (codes "endprimitive") ∷ [])))))
 
 -- ---- texts
 
-abbrev pub description : Description → List Written
+abbrev pub description : Description → List Spelled
 description (described.Module m) = module_spelling m
-description (described.Udp u) = udp u
+description (described.Udp u) = exactly (udp u)
+description (described.Directive d) = exactly (directive d)
 
 -- descriptions, and the end of the text
-abbrev pub spelling : List Description → List Written
-spelling descriptions = one_by_one description descriptions ++ bare form.End ∷ []
+abbrev pub spelling : List Description → List Spelled
+spelling descriptions = one_by_one description descriptions ++ exactly (bare form.End ∷ [])

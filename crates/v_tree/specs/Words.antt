@@ -1,11 +1,15 @@
 -- The reserved words and the symbols that stand for a variant.
-use Rattle.std.specs.Prelude.{ℕ, Bool, true, false, List, codes}
+use Rattle.std.specs.Prelude.{ℕ, ◌-◌, ◌/◌, ◌%◌, ◌^◌, ℤ, pos, negsuc, Bool, true, false, List, [], ◌∷◌, get_or, codes}
 use Rattle.v_tree.specs.declared.declarations.Direction.{Direction}
 use Rattle.v_tree.specs.declared.declarations.Direction.TheVariants as direction
+use Rattle.v_tree.specs.declared.directives.CellWord.{CellWord}
+use Rattle.v_tree.specs.declared.directives.CellWord.TheVariants as cell
+use Rattle.v_tree.specs.declared.directives.ImplicitNetType.{ImplicitNetType}
+use Rattle.v_tree.specs.declared.directives.ImplicitNetType.TheVariants as implicit
 use Rattle.v_tree.specs.declared.declarations.NetType.{NetType}
 use Rattle.v_tree.specs.declared.declarations.NetType.TheVariants as net_type
-use Rattle.v_tree.specs.declared.declarations.SpreadWord.{SpreadWord}
-use Rattle.v_tree.specs.declared.declarations.SpreadWord.TheVariants as spread
+use Rattle.v_tree.specs.declared.declarations.VectorWord.{VectorWord}
+use Rattle.v_tree.specs.declared.declarations.VectorWord.TheVariants as vector
 use Rattle.v_tree.specs.declared.drives.Charge.{Charge}
 use Rattle.v_tree.specs.declared.drives.Charge.TheVariants as charge
 use Rattle.v_tree.specs.declared.gates.LogicGate.{LogicGate}
@@ -43,9 +47,9 @@ net_type_word net_type.Tri1 = codes "tri1"
 net_type_word net_type.Supply0 = codes "supply0"
 net_type_word net_type.Supply1 = codes "supply1"
 
-abbrev pub spread_word : SpreadWord → List ℕ
-spread_word spread.Vectored = codes "vectored"
-spread_word spread.Scalared = codes "scalared"
+abbrev pub vector_word : VectorWord → List ℕ
+vector_word vector.Vectored = codes "vectored"
+vector_word vector.Scalared = codes "scalared"
 
 abbrev pub charge_word : Charge → List ℕ
 charge_word charge.Small = codes "small"
@@ -89,6 +93,35 @@ pull_word pull.Pulldown = codes "pulldown"
 abbrev pub opening_word : ModuleWord → List ℕ
 opening_word opening.Module = codes "module"
 opening_word opening.Macromodule = codes "macromodule"
+
+abbrev pub cell_word : CellWord → List ℕ
+cell_word cell.Celldefine = codes "`celldefine"
+cell_word cell.Endcelldefine = codes "`endcelldefine"
+
+abbrev pub implicit_net_type_word : ImplicitNetType → List ℕ
+implicit_net_type_word implicit.Wire = codes "wire"
+implicit_net_type_word implicit.Tri = codes "tri"
+implicit_net_type_word implicit.Tri0 = codes "tri0"
+implicit_net_type_word implicit.Tri1 = codes "tri1"
+implicit_net_type_word implicit.Wand = codes "wand"
+implicit_net_type_word implicit.Triand = codes "triand"
+implicit_net_type_word implicit.Wor = codes "wor"
+implicit_net_type_word implicit.Trior = codes "trior"
+implicit_net_type_word implicit.Trireg = codes "trireg"
+
+-- how often a power of ten of a second, from 100 s to 1 fs, has its unit: 1, 10 or 100 times
+abbrev pub unit_count : ℤ → ℕ
+unit_count (pos n) = 10 ^ n
+unit_count (negsuc n) = 10 ^ (2 - n % 3)
+
+-- the units below a second, each the thousandth part of the one before
+abbrev pub small_units : List (List ℕ)
+small_units = codes "ms" ∷ codes "us" ∷ codes "ns" ∷ codes "ps" ∷ codes "fs" ∷ []
+
+-- the greatest unit that isn't greater than a power of ten of a second
+abbrev pub unit_name : ℤ → List ℕ
+unit_name (pos n) = codes "s"
+unit_name (negsuc n) = get_or small_units (n / 3) []
 
 -- the word of a strength of a value
 abbrev pub strength_word : Strength → Bool → List ℕ

@@ -1,6 +1,6 @@
-use crate::drives::{Charge, DelaySpec, Drive};
+use crate::drives::{Charge, DelaySpec, DriveStrength};
 use crate::expressions::{Expr, Range, Target};
-use crate::places::{Name, Place, PlacedNameList};
+use crate::locations::{Location, Name, PlacedNameList};
 use sqlite_items::Items;
 
 /// The direction of a port (IEEE 1364-2005, 12.3.3).
@@ -28,22 +28,22 @@ pub enum NetType {
 
 /// The word that may stand before the range of a net.
 #[derive(Clone, Copy, Debug, PartialEq, Eq)]
-pub enum SpreadWord {
+pub enum VectorWord {
     Vectored,
     Scalared,
 }
 
 /// The range of a net, with the word before it where there is one.
 #[derive(Clone, Copy, Debug, PartialEq, Eq)]
-pub struct Spread {
-    pub word: Option<SpreadWord>,
+pub struct VectorRange {
+    pub word: Option<VectorWord>,
     pub range: Range,
 }
 
-/// A declaration of ports: `dir [ nettype ] [ range ] Name , .. ;`. The place is that of the direction.
+/// A declaration of ports: `dir [ nettype ] [ range ] Name , .. ;`. The location is that of the direction.
 #[derive(Debug, Drop)]
 pub struct PortDecl {
-    pub place: Place,
+    pub location: Location,
     pub direction: Direction,
     pub net_type: Option<NetType>,
     pub range: Option<Range>,
@@ -67,25 +67,25 @@ pub enum Declared {
     Valued(ValuedNameList),
 }
 
-/// A declaration of nets: `nettype [ drive ] [ spread ] [ delay ] declared ;`. The place is that of
+/// A declaration of nets: `nettype [ drive ] [ vector_range ] [ delay ] declared ;`. The location is that of
 /// the type.
 #[derive(Drop)]
 pub struct NetDecl {
-    pub place: Place,
+    pub location: Location,
     pub net_type: NetType,
-    pub drive: Option<Drive>,
-    pub spread: Option<Spread>,
+    pub drive: Option<DriveStrength>,
+    pub vector_range: Option<VectorRange>,
     pub delay: Option<DelaySpec>,
     pub declared: Declared,
 }
 
-/// A declaration of triregs: `trireg [ charge ] [ spread ] [ delay ] Name , .. ;`. The place is that
+/// A declaration of triregs: `trireg [ charge ] [ vector_range ] [ delay ] Name , .. ;`. The location is that
 /// of the word.
 #[derive(Debug, Drop)]
 pub struct TriregDecl {
-    pub place: Place,
+    pub location: Location,
     pub charge: Option<Charge>,
-    pub spread: Option<Spread>,
+    pub vector_range: Option<VectorRange>,
     pub delay: Option<DelaySpec>,
     pub names: PlacedNameList,
 }
@@ -100,12 +100,12 @@ pub struct Pair {
 /// Pairs with commas between.
 pub type PairList = Items<Pair>;
 
-/// Continuous assignments: `assign [ drive ] [ delay ] pair , .. ;` (IEEE 1364-2005, 6.1). The place
+/// Continuous assignments: `assign [ drive ] [ delay ] pair , .. ;` (IEEE 1364-2005, 6.1). The location
 /// is that of the word.
 #[derive(Drop)]
 pub struct AssignItem {
-    pub place: Place,
-    pub drive: Option<Drive>,
+    pub location: Location,
+    pub drive: Option<DriveStrength>,
     pub delay: Option<DelaySpec>,
     pub pairs: PairList,
 }

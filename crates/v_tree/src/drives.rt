@@ -1,5 +1,6 @@
-use crate::places::Place;
+use crate::locations::Location;
 use sqlite_items::Items;
+use v_lexer::DecimalDigits;
 
 /// The strength in the name of a level (IEEE 1364-2005, 7.10).
 #[derive(Clone, Copy, Debug, PartialEq, Eq)]
@@ -18,18 +19,18 @@ pub struct Level {
     pub of_one: bool,
 }
 
-/// `( level , level )`. The place is that of the `(`.
+/// `( level , level )`. The location is that of the `(`.
 #[derive(Clone, Copy, Debug, PartialEq, Eq)]
-pub struct Drive {
-    pub place: Place,
+pub struct DriveStrength {
+    pub location: Location,
     pub first: Level,
     pub second: Level,
 }
 
-/// `( level )` or `( level , level )` of a pull gate. The place is that of the `(`.
+/// `( level )` or `( level , level )` of a pull gate. The location is that of the `(`.
 #[derive(Clone, Copy, Debug, PartialEq, Eq)]
 pub struct PullLevels {
-    pub place: Place,
+    pub location: Location,
     pub first: Level,
     pub second: Option<Level>,
 }
@@ -42,26 +43,33 @@ pub enum Charge {
     Large,
 }
 
-/// A delay in ticks, or its least, typical and greatest one; each below 2^31.
-#[derive(Clone, Copy, Debug, PartialEq, Eq)]
+/// An amount of a delay, in the time unit of its module: a number below 2^31, or a decimal.
+#[derive(Debug, Drop)]
+pub enum Amount {
+    Number(u32),
+    Decimal(DecimalDigits),
+}
+
+/// A delay, or its least, typical and greatest one.
+#[derive(Debug, Drop)]
 pub enum DelayValue {
-    One(u32),
-    Three(u32, u32, u32),
+    One(Amount),
+    Three(Amount, Amount, Amount),
 }
 
 /// Delays with commas between.
 pub type DelayValueList = Items<DelayValue>;
 
-/// What stands behind the `#`: a number, or delays in parentheses.
+/// What stands behind the `#`: an amount, or delays in parentheses.
 #[derive(Debug, Drop)]
 pub enum Delay {
-    Number(u32),
+    Amount(Amount),
     Values(DelayValueList),
 }
 
-/// `# number` or `# ( value , .. )` (IEEE 1364-2005, 7.14). The place is that of the `#`.
+/// `# amount` or `# ( value , .. )` (IEEE 1364-2005, 7.14). The location is that of the `#`.
 #[derive(Debug, Drop)]
 pub struct DelaySpec {
-    pub place: Place,
+    pub location: Location,
     pub delay: Delay,
 }

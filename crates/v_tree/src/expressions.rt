@@ -1,4 +1,4 @@
-use crate::places::{Name, Place};
+use crate::locations::{Location, Name};
 use sqlite_items::Items;
 use v_lexer::Literal;
 
@@ -23,18 +23,18 @@ pub struct Pick {
     pub select: Option<Select>,
 }
 
-/// What a terminal, a connection or the right side of an assignment is. The place is that of the first
+/// What a terminal, a connection or the right side of an assignment is. The location is that of the first
 /// token; that of a pick is its name's.
 #[cycle(expr)]
 #[derive(Drop)]
 pub enum Expr {
     Pick(Pick),
     /// A number without base, below 2^31.
-    Number(Place, u32),
+    Number(Location, u32),
     /// A based number.
-    Based(Place, Literal),
+    Based(Location, Literal),
     /// `{ expr , .. }`, the leftmost first.
-    Concat(Place, Items<Expr>),
+    Concat(Location, Items<Expr>),
 }
 
 /// Expressions with commas between.
@@ -46,7 +46,7 @@ pub type ExprList = Items<Expr>;
 pub enum Target {
     Pick(Pick),
     /// `{ target , .. }`, the leftmost first.
-    Concat(Place, Items<Target>),
+    Concat(Location, Items<Target>),
 }
 
 /// Targets with commas between.

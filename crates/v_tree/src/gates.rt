@@ -1,6 +1,6 @@
-use crate::drives::{DelaySpec, Drive, PullLevels};
+use crate::drives::{DelaySpec, DriveStrength, PullLevels};
 use crate::expressions::{Expr, ExprList};
-use crate::places::{Name, Place};
+use crate::locations::{Location, Name};
 use sqlite_items::Items;
 
 /// A gate that may have a drive and a delay (IEEE 1364-2005, 7.2 to 7.4).
@@ -49,11 +49,11 @@ pub enum PullGate {
     Pulldown,
 }
 
-/// `[ Name ] ( expr , .. )`: one gate of an item. `paren` is the place of the `(`.
+/// `[ Name ] ( expr , .. )`: one gate of an item. `paren` is the location of the `(`.
 #[derive(Drop)]
 pub struct Terms {
     pub name: Option<Name>,
-    pub paren: Place,
+    pub paren: Location,
     pub terminals: ExprList,
 }
 
@@ -63,24 +63,24 @@ pub type TermsList = Items<Terms>;
 /// The word of an item of gates, and what stands before its terminals.
 #[derive(Drop)]
 pub enum GateKind {
-    Logic(LogicGate, Option<Drive>, Option<DelaySpec>),
+    Logic(LogicGate, Option<DriveStrength>, Option<DelaySpec>),
     Switch(Switch, Option<DelaySpec>),
     Tran(TranGate),
     Pull(PullGate, Option<PullLevels>),
 }
 
-/// Gates or switches of one kind (IEEE 1364-2005, 7.1). The place is that of the word.
+/// Gates or switches of one kind (IEEE 1364-2005, 7.1). The location is that of the word.
 #[derive(Drop)]
 pub struct GateItem {
-    pub place: Place,
+    pub location: Location,
     pub kind: GateKind,
     pub gates: TermsList,
 }
 
-/// `. Name ( [ expr ] )`. The place is that of the `.`.
+/// `. Name ( [ expr ] )`. The location is that of the `.`.
 #[derive(Drop)]
 pub struct Connection {
-    pub place: Place,
+    pub location: Location,
     pub port: Name,
     pub value: Option<Expr>,
 }
@@ -98,11 +98,11 @@ pub enum Connections {
     ByName(ConnectionList),
 }
 
-/// `[ Name ] ( connections )`: one instance of an item. `paren` is the place of the `(`.
+/// `[ Name ] ( connections )`: one instance of an item. `paren` is the location of the `(`.
 #[derive(Drop)]
 pub struct Inst {
     pub name: Option<Name>,
-    pub paren: Place,
+    pub paren: Location,
     pub connections: Connections,
 }
 
@@ -114,7 +114,7 @@ pub type InstList = Items<Inst>;
 #[derive(Drop)]
 pub struct Instance {
     pub name: Name,
-    pub drive: Option<Drive>,
+    pub drive: Option<DriveStrength>,
     pub delay: Option<DelaySpec>,
     pub instances: InstList,
 }

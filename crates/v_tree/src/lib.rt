@@ -3,30 +3,35 @@
 #![tactic(auto)]
 
 mod declarations;
+mod directives;
 mod drives;
 mod expressions;
 mod gates;
+mod locations;
 mod modules;
-mod places;
 mod primitives;
 
 pub use declarations::{
-    AssignItem, Declared, Direction, NetDecl, NetType, Pair, PairList, PortDecl, Spread,
-    SpreadWord, TriregDecl, ValuedName, ValuedNameList,
+    AssignItem, Declared, Direction, NetDecl, NetType, Pair, PairList, PortDecl, TriregDecl,
+    ValuedName, ValuedNameList, VectorRange, VectorWord,
+};
+pub use directives::{
+    CellDirective, CellWord, DefaultNettype, Directive, DirectiveList, ImplicitNetType, Timescale,
 };
 pub use drives::{
-    Charge, Delay, DelaySpec, DelayValue, DelayValueList, Drive, Level, PullLevels, Strength,
+    Amount, Charge, Delay, DelaySpec, DelayValue, DelayValueList, DriveStrength, Level, PullLevels,
+    Strength,
 };
 pub use expressions::{Expr, ExprList, Pick, Range, Select, Target, TargetList};
 pub use gates::{
     Connection, ConnectionList, Connections, GateItem, GateKind, Inst, InstList, Instance,
     LogicGate, OptionalExprList, PullGate, Switch, Terms, TermsList, TranGate,
 };
+pub use locations::{Location, Name, PlacedNameList};
 pub use modules::{
     AnsiEntry, AnsiEntryList, AnsiPort, Description, File, Item, ItemList, Module, ModuleList,
-    ModuleWord, Ports,
+    ModuleWord, Ports, SpecifyBlock,
 };
-pub use places::{Name, Place, PlacedNameList};
 pub use primitives::{
     Lit, PlacedRow, PlacedRowList, UdpDecl, UdpDeclList, UdpInitial, UdpInput, UdpInputList,
     UdpItem, UdpItemList, UdpPorts,

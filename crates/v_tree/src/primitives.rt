@@ -1,4 +1,4 @@
-use crate::places::{Name, Place, PlacedNameList};
+use crate::locations::{Location, Name, PlacedNameList};
 use sqlite_items::Items;
 use udp_table::UdpRow;
 use v_lexer::Literal;
@@ -6,8 +6,8 @@ use v_lexer::Literal;
 /// A literal of a start value.
 #[derive(Debug, Drop)]
 pub enum Lit {
-    Number(Place, u32),
-    Based(Place, Literal),
+    Number(Location, u32),
+    Based(Location, Literal),
 }
 
 /// `[ input ] Name` in a header, and whether the word is there.
@@ -33,44 +33,44 @@ pub enum UdpPorts {
     },
 }
 
-/// A declaration in a primitive. The place is that of its first word.
+/// A declaration in a primitive. The location is that of its first word.
 #[derive(Debug, Drop)]
 pub enum UdpItem {
     Output {
-        place: Place,
+        location: Location,
         is_reg: bool,
         name: Name,
         start: Option<Lit>,
     },
-    Input(Place, PlacedNameList),
-    Reg(Place, Name),
+    Input(Location, PlacedNameList),
+    Reg(Location, Name),
 }
 
 /// Declarations in their order.
 pub type UdpItemList = Items<UdpItem>;
 
-/// `initial Name = lit ;` (IEEE 1364-2005, 8.5). The place is that of the word.
+/// `initial Name = lit ;` (IEEE 1364-2005, 8.5). The location is that of the word.
 #[derive(Debug, Drop)]
 pub struct UdpInitial {
-    pub place: Place,
+    pub location: Location,
     pub name: Name,
     pub value: Lit,
 }
 
-/// A row of the table, with the place of its first token.
+/// A row of the table, with the location of its first token.
 #[derive(Debug, Drop)]
 pub struct PlacedRow {
-    pub place: Place,
+    pub location: Location,
     pub row: UdpRow,
 }
 
 /// Rows in their order.
 pub type PlacedRowList = Items<PlacedRow>;
 
-/// A user-defined primitive (IEEE 1364-2005, 8.1). The place is that of the word `primitive`.
+/// A user-defined primitive (IEEE 1364-2005, 8.1). The location is that of the word `primitive`.
 #[derive(Debug, Drop)]
 pub struct UdpDecl {
-    pub place: Place,
+    pub location: Location,
     pub name: Name,
     pub ports: UdpPorts,
     pub items: UdpItemList,

@@ -103,8 +103,8 @@ fn headers_outside_the_grammar(rt: HostRuntime) -> Result<(), Fail> {
         ),
         ("module m(.a(b));\nendmodule\n", "1: syntax error"),
         (
-            "`timescale 1ns/1ns\nmodule m; endmodule\n",
-            "1: unsupported",
+            "module m;\n`timescale 1ns/1ns\nendmodule\n",
+            "2: unsupported",
         ),
     ];
     assert_refused(&rt, rt.alloc(), rows.as_slice())
@@ -167,6 +167,35 @@ fn declarations_outside_the_grammar(rt: HostRuntime) -> Result<(), Fail> {
         ("module m;\nreg a;\nendmodule\n", "2: unsupported"),
         ("module m;\nwire initial;\nendmodule\n", "2: unsupported"),
         ("module m;\n\n`define a\nendmodule\n", "3: unsupported"),
+        (
+            "module m(y);\noutput y;\nspecify\n(a *> y) = 1;\nendmodule\n",
+            "6: syntax error",
+        ),
+        ("module m;\nendspecify\nendmodule\n", "2: unsupported"),
+        (
+            "module m;\nbuf #(1:0.5)\n(y, a);\nendmodule\n",
+            "2: syntax error",
+        ),
+        ("module m;\nwire [0.5:0] a;\nendmodule\n", "2: unsupported"),
+    ];
+    assert_refused(&rt, rt.alloc(), rows.as_slice())
+}
+
+#[test]
+fn directives_outside_the_grammar(rt: HostRuntime) -> Result<(), Fail> {
+    let rows = [
+        ("`timescale 1ns/2ps\n", "1: syntax error"),
+        ("`timescale 1\nns/ps\n", "2: syntax error"),
+        ("`timescale\n1000 ns/1 ps\n", "2: syntax error"),
+        ("`timescale 1\nxs/1 ps\n", "2: syntax error"),
+        ("`timescale 1ns\n1ps\n", "2: syntax error"),
+        ("`timescale\n1.0 ns/1 ps\n", "2: unsupported"),
+        ("`default_nettype\nreg\n", "2: unsupported"),
+        ("`default_nettype\nsupply0\n", "2: syntax error"),
+        ("`default_nettype\nnet\n", "2: syntax error"),
+        ("`resetall\nx\n", "2: syntax error"),
+        ("\n`define x\n", "2: unsupported"),
+        ("`celldefine\n`include\n", "2: unsupported"),
     ];
     assert_refused(&rt, rt.alloc(), rows.as_slice())
 }
@@ -308,6 +337,16 @@ fn netlists_outside_the_form(rt: HostRuntime) -> Result<(), Fail> {
         "primitive p(q, a); output q; reg q; input a; initial q = 1; table (?0) : ? : -; endtable endprimitive",
         "module m(output y, input a); nand (y, a); endmodule",
         "module m(output wire [3:0] y, z, input a); endmodule",
+        // Directives, cells, blocks and decimals.
+        "`timescale 1ns/10ps module m(y, a); output y; input a; nand (y, a); endmodule",
+        "`timescale 1 ns/10\\ps module m(y, a); output y; input a; nand (y, a); endmodule",
+        "`default_nettype none module m(y, a); output y; input a; nand (y, a); endmodule",
+        "module m(y, a); output y; input a; nand (y, a); endmodule `resetall",
+        "`celldefine module m(y, a); output y; input a; nand (y, a); endmodule `endcelldefine",
+        "module m(y, a); output y; input a; `celldefine nand (y, a); endmodule",
+        "module m(y, a); output y; input a; nand (y, a); specify endspecify endmodule",
+        "module m(y, a); output y; input a; nand #0.5 (y, a); endmodule",
+        "`resetall",
         // Ports and nets.
         "module m(a, a); input a; endmodule",
         "module m(a, b); input a; endmodule",
@@ -365,7 +404,18 @@ fn netlists_outside_the_form(rt: HostRuntime) -> Result<(), Fail> {
 
 /// A text with each rule of the grammar, a token behind each space.
 const TOKENS: &str =
-    "primitive dff ( q , c , d ) ; output q ; reg q ; input c , d ; initial q = 1'b0 ; table r 0 : ? : 0 ; ( 0 1 ) 1 : ? : 1 ; n ? : ? : - ; endtable endprimitive primitive inv ( output y = 1 , input a , b ) ; table 0 x : 1 ; endtable endprimitive module m ( y , a ) ; output tri [ 3 : 0 ] y ; input a , b ; wire ( strong0 , pull1 ) # ( 1 : 2 : 3 , 4 ) c = { a , y [ 1 ] , 2'b10 } , d = 3 ; wand vectored [ 7 : 0 ] # 5 e , f ; trireg ( small ) scalared [ 1 : 0 ] # ( 0 , 0 , 50 ) g ; assign ( weak0 , highz1 ) # 2 { h , y [ 3 : 2 ] } = k , l = 0 ; nand ( strong0 , strong1 ) # 1 g1 ( y , a , b ) , ( h , 1'b1 ) ; cmos # ( 2 ) ( y , a , b , c ) ; rtran t ( a , b ) ; pullup ( supply1 ) ( a ) ; pulldown ( strong0 , strong1 ) p ( b ) ; dff # 1 f1 ( a , , b ) , f2 ( . q ( a ) , . c ( ) ) ; sub ( strong1 , weak0 ) u ( ) ; endmodule macromodule sub ( input wire [ 2 : 1 ] s , output t , u ) ; endmodule module top ; endmodule module none ( ) ; endmodule";
+    "`timescale 10 ns / 1 \\ps `celldefine `default_nettype none `default_nettype wor `resetall primitive dff ( q , c , d ) ; output q ; reg q ; input c , d ; initial q = 1'b0 ; table r 0 : ? : 0 ; ( 0 1 ) 1 : ? : 1 ; n ? : ? : - ; endtable endprimitive primitive inv ( output y = 1 , input a , b ) ; table 0 x : 1 ; endtable endprimitive module m ( y , a ) ; output tri [ 3 : 0 ] y ; input a , b ; wire ( strong0 , pull1 ) # ( 1 : 2 : 3 , 4 ) c = { a , y [ 1 ] , 2'b10 } , d = 3 ; wand vectored [ 7 : 0 ] # 5 e , f ; trireg ( small ) scalared [ 1 : 0 ] # ( 0 , 0.5 , 50 ) g ; assign ( weak0 , highz1 ) # 2 { h , y [ 3 : 2 ] } = k , l = 0 ; `endcelldefine specify ( a *> y ) = 0.2 ; endspecify nand ( strong0 , strong1 ) # 1.25 g1 ( y , a , b ) , ( h , 1'b1 ) ; cmos # ( 2 ) ( y , a , b , c ) ; rtran t ( a , b ) ; pullup ( supply1 ) ( a ) ; pulldown ( strong0 , strong1 ) p ( b ) ; dff # 1 f1 ( a , , b ) , f2 ( . q ( a ) , . c ( ) ) ; sub ( strong1 , weak0 ) u ( ) ; endmodule macromodule sub ( input wire [ 2 : 1 ] s , output t , u ) ; endmodule module top ; endmodule module bare ( ) ; endmodule";
+
+/// The tokens behind which a text may end.
+const WHOLE: [&str; 7] = [
+    "endprimitive",
+    "endmodule",
+    "\\ps",
+    "`celldefine",
+    "none",
+    "wor",
+    "`resetall",
+];
 
 /// These lines and one more are refused at that one.
 fn assert_refused_at_end(
@@ -389,9 +439,16 @@ fn a_cut_text_is_refused_at_its_end(rt: HostRuntime) -> Result<(), Fail> {
     let mut lines = String::new(alloc);
     let mut line: u64 = 1;
     let mut table = false;
+    let mut block = false;
     let mut whole = true;
     for token in TOKENS.split(' ') {
-        let wrong = if table { "bad byte" } else { "unsupported" };
+        let wrong = if table {
+            "bad byte"
+        } else if block {
+            "syntax error"
+        } else {
+            "unsupported"
+        };
         assert_refused_at_end(&rt, alloc, lines.as_str(), "always", line, wrong)?;
         if !whole {
             assert_refused_at_end(&rt, alloc, lines.as_str(), "", line, "syntax error")?;
@@ -400,7 +457,8 @@ fn a_cut_text_is_refused_at_its_end(rt: HostRuntime) -> Result<(), Fail> {
         lines.push_str("\n")?;
         line = line.saturating_add(1);
         table = (table || token == "table") && token != "endtable";
-        whole = token == "endprimitive" || token == "endmodule";
+        block = (block || token == "specify") && token != "endspecify";
+        whole = WHOLE.contains(&token);
     }
     assert_answer(&rt, alloc, lines.as_str(), ONE, 3, "n.v: unbuilt\n")
 }

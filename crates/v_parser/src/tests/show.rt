@@ -1,6 +1,7 @@
 //! Trees as the tables of tests have them.
 
 use crate::ParseFault;
+use byte_lists::Bytes;
 use std::alloc::AllocError;
 use std::fmt::Write;
 use udp_table::{Base, Sym};
@@ -57,7 +58,11 @@ fn bit_letter(bit: Bit) -> char {
 fn show_literal(shown: &mut String, literal: &Literal) -> Result<(), AllocError> {
     match literal.size {
         Some(size) => write!(shown, "{size}b")?,
-        None => shown.push_str("-b")?,
+        None => {
+            shown.push('-')?;
+            shown.push(bit_letter(literal.extension))?;
+            shown.push('b')?;
+        }
     }
     for bit in literal.bits.as_slice() {
         shown.push(bit_letter(*bit))?;
@@ -112,9 +117,9 @@ fn show_level(shown: &mut String, level: &Level) -> Result<(), AllocError> {
     Ok(())
 }
 
-fn show_drive(shown: &mut String, drive: &Option<Drive>) -> Result<(), AllocError> {
+fn show_drive(shown: &mut String, drive: &Option<DriveStrength>) -> Result<(), AllocError> {
     if let Some(drive) = drive {
-        let token = drive.place.token;
+        let token = drive.location.token;
         write!(shown, "{token}(")?;
         show_level(shown, &drive.first)?;
         shown.push(',')?;
@@ -126,7 +131,7 @@ fn show_drive(shown: &mut String, drive: &Option<Drive>) -> Result<(), AllocErro
 
 fn show_levels(shown: &mut String, levels: &Option<PullLevels>) -> Result<(), AllocError> {
     if let Some(levels) = levels {
-        let token = levels.place.token;
+        let token = levels.location.token;
         write!(shown, "{token}(")?;
         show_level(shown, &levels.first)?;
         if let Some(second) = &levels.second {
@@ -138,6 +143,25 @@ fn show_levels(shown: &mut String, levels: &Option<PullLevels>) -> Result<(), Al
     Ok(())
 }
 
+fn show_digits(shown: &mut String, digits: &Bytes) -> Result<(), AllocError> {
+    for digit in digits.as_slice() {
+        write!(shown, "{digit}")?;
+    }
+    Ok(())
+}
+
+fn show_amount(shown: &mut String, amount: &Amount) -> Result<(), AllocError> {
+    match amount {
+        Amount::Number(n) => write!(shown, "{n}")?,
+        Amount::Decimal(digits) => {
+            show_digits(shown, &digits.whole)?;
+            shown.push('.')?;
+            show_digits(shown, &digits.fraction)?;
+        }
+    }
+    Ok(())
+}
+
 fn show_values(shown: &mut String, values: &DelayValueList) -> Result<(), AllocError> {
     shown.push('(')?;
     for (i, value) in values.as_slice().iter().enumerate() {
@@ -145,8 +169,14 @@ fn show_values(shown: &mut String, values: &DelayValueList) -> Result<(), AllocE
             shown.push(',')?;
         }
         match value {
-            DelayValue::One(n) => write!(shown, "{n}")?,
-            DelayValue::Three(a, b, c) => write!(shown, "{a}:{b}:{c}")?,
+            DelayValue::One(amount) => show_amount(shown, amount)?,
+            DelayValue::Three(a, b, c) => {
+                show_amount(shown, a)?;
+                shown.push(':')?;
+                show_amount(shown, b)?;
+                shown.push(':')?;
+                show_amount(shown, c)?;
+            }
         }
     }
     shown.push_str(") ")
@@ -154,10 +184,13 @@ fn show_values(shown: &mut String, values: &DelayValueList) -> Result<(), AllocE
 
 fn show_delay(shown: &mut String, delay: &Option<DelaySpec>) -> Result<(), AllocError> {
     if let Some(spec) = delay {
-        let token = spec.place.token;
+        let token = spec.location.token;
         write!(shown, "{token}#")?;
         match &spec.delay {
-            Delay::Number(n) => write!(shown, "{n} ")?,
+            Delay::Amount(amount) => {
+                show_amount(shown, amount)?;
+                shown.push(' ')?;
+            }
             Delay::Values(values) => show_values(shown, values)?,
         }
     }
@@ -178,12 +211,15 @@ fn show_range_if_there(shown: &mut String, range: &Option<Range>) -> Result<(), 
     Ok(())
 }
 
-fn show_spread(shown: &mut String, spread: &Option<Spread>) -> Result<(), AllocError> {
-    if let Some(spread) = spread {
-        if let Some(word) = &spread.word {
+fn show_vector_range(
+    shown: &mut String,
+    vector_range: &Option<VectorRange>,
+) -> Result<(), AllocError> {
+    if let Some(vector_range) = vector_range {
+        if let Some(word) = &vector_range.word {
             write!(shown, "{word:?} ")?;
         }
-        show_range(shown, &spread.range)?;
+        show_range(shown, &vector_range.range)?;
     }
     Ok(())
 }
@@ -201,11 +237,11 @@ fn show_valued(shown: &mut String, names: &ValuedNameList) -> Result<(), AllocEr
 }
 
 fn show_net_decl(shown: &mut String, decl: &NetDecl) -> Result<(), AllocError> {
-    let token = decl.place.token;
+    let token = decl.location.token;
     let net_type = decl.net_type;
     write!(shown, "{token}:{net_type:?} ")?;
     show_drive(shown, &decl.drive)?;
-    show_spread(shown, &decl.spread)?;
+    show_vector_range(shown, &decl.vector_range)?;
     show_delay(shown, &decl.delay)?;
     match &decl.declared {
         Declared::Names(names) => show_names(shown, names),
@@ -214,18 +250,18 @@ fn show_net_decl(shown: &mut String, decl: &NetDecl) -> Result<(), AllocError> {
 }
 
 fn show_trireg(shown: &mut String, decl: &TriregDecl) -> Result<(), AllocError> {
-    let token = decl.place.token;
+    let token = decl.location.token;
     write!(shown, "{token}:Trireg ")?;
     if let Some(charge) = &decl.charge {
         write!(shown, "{charge:?} ")?;
     }
-    show_spread(shown, &decl.spread)?;
+    show_vector_range(shown, &decl.vector_range)?;
     show_delay(shown, &decl.delay)?;
     show_names(shown, &decl.names)
 }
 
 fn show_assign(shown: &mut String, item: &AssignItem) -> Result<(), AllocError> {
-    let token = item.place.token;
+    let token = item.location.token;
     write!(shown, "{token}:Assign ")?;
     show_drive(shown, &item.drive)?;
     show_delay(shown, &item.delay)?;
@@ -283,7 +319,7 @@ fn show_kind(shown: &mut String, kind: &GateKind) -> Result<(), AllocError> {
 }
 
 fn show_gates(shown: &mut String, item: &GateItem) -> Result<(), AllocError> {
-    let token = item.place.token;
+    let token = item.location.token;
     write!(shown, "{token}:")?;
     show_kind(shown, &item.kind)?;
     for (i, terms) in item.gates.as_slice().iter().enumerate() {
@@ -296,7 +332,7 @@ fn show_gates(shown: &mut String, item: &GateItem) -> Result<(), AllocError> {
 }
 
 fn show_connection(shown: &mut String, connection: &Connection) -> Result<(), AllocError> {
-    let token = connection.place.token;
+    let token = connection.location.token;
     write!(shown, "{token}.")?;
     show_bytes(shown, connection.port.text.as_slice())?;
     shown.push('=')?;
@@ -340,7 +376,7 @@ fn show_inst(shown: &mut String, inst: &Inst) -> Result<(), AllocError> {
 }
 
 fn show_instance(shown: &mut String, instance: &Instance) -> Result<(), AllocError> {
-    let token = instance.name.place.token;
+    let token = instance.name.location.token;
     write!(shown, "{token}:")?;
     show_bytes(shown, instance.name.text.as_slice())?;
     shown.push(' ')?;
@@ -356,12 +392,53 @@ fn show_instance(shown: &mut String, instance: &Instance) -> Result<(), AllocErr
 }
 
 fn show_port_decl(shown: &mut String, decl: &PortDecl) -> Result<(), AllocError> {
-    let token = decl.place.token;
+    let token = decl.location.token;
     let direction = decl.direction;
     write!(shown, "{token}:{direction:?} ")?;
     show_net_type(shown, &decl.net_type)?;
     show_range_if_there(shown, &decl.range)?;
     show_names(shown, &decl.names)
+}
+
+fn show_cell(shown: &mut String, cell: &CellDirective) -> Result<(), AllocError> {
+    let token = cell.location.token;
+    let word = cell.word;
+    write!(shown, "{token}:{word:?}")?;
+    Ok(())
+}
+
+fn show_block(shown: &mut String, block: &SpecifyBlock) -> Result<(), AllocError> {
+    let token = block.location.token;
+    let count = block.token_count;
+    write!(shown, "{token}:Specify {count}")?;
+    Ok(())
+}
+
+fn show_default(shown: &mut String, default: &DefaultNettype) -> Result<(), AllocError> {
+    let token = default.location.token;
+    match default.net_type {
+        Some(net_type) => write!(shown, "{token}:Default {net_type:?}")?,
+        None => write!(shown, "{token}:Default none")?,
+    }
+    Ok(())
+}
+
+fn show_directive(shown: &mut String, directive: &Directive) -> Result<(), AllocError> {
+    match directive {
+        Directive::Timescale(timescale) => {
+            let token = timescale.location.token;
+            let unit = timescale.unit;
+            let precision = timescale.precision;
+            write!(shown, "{token}:Timescale {unit}/{precision}")?;
+        }
+        Directive::DefaultNettype(default) => show_default(shown, default)?,
+        Directive::Resetall(location) => {
+            let token = location.token;
+            write!(shown, "{token}:Resetall")?;
+        }
+        Directive::Cell(cell) => show_cell(shown, cell)?,
+    }
+    shown.push(';')
 }
 
 fn show_item(shown: &mut String, item: &Item) -> Result<(), AllocError> {
@@ -372,6 +449,8 @@ fn show_item(shown: &mut String, item: &Item) -> Result<(), AllocError> {
         Item::Assign(item) => show_assign(shown, item),
         Item::Gates(item) => show_gates(shown, item),
         Item::Instances(instance) => show_instance(shown, instance),
+        Item::Cell(cell) => show_cell(shown, cell),
+        Item::Specify(block) => show_block(shown, block),
     }
 }
 
@@ -386,7 +465,7 @@ fn show_items(shown: &mut String, items: &ItemList) -> Result<(), AllocError> {
 }
 
 fn show_ansi_port(shown: &mut String, port: &AnsiPort) -> Result<(), AllocError> {
-    let token = port.place.token;
+    let token = port.location.token;
     let direction = port.direction;
     write!(shown, "{token}:{direction:?} ")?;
     show_net_type(shown, &port.net_type)?;
@@ -424,7 +503,7 @@ fn show_ports(shown: &mut String, ports: &Ports) -> Result<(), AllocError> {
 }
 
 fn show_module(shown: &mut String, module: &Module) -> Result<(), AllocError> {
-    let token = module.place.token;
+    let token = module.location.token;
     let word = module.word;
     write!(shown, "{token}:{word:?} ")?;
     show_bytes(shown, module.name.text.as_slice())?;
@@ -487,24 +566,24 @@ fn show_header(shown: &mut String, ports: &UdpPorts) -> Result<(), AllocError> {
 fn show_udp_item(shown: &mut String, item: &UdpItem) -> Result<(), AllocError> {
     match item {
         UdpItem::Output {
-            place,
+            location,
             is_reg,
             name,
             start,
         } => {
-            let token = place.token;
+            let token = location.token;
             write!(shown, "{token}:o ")?;
             show_star(shown, *is_reg)?;
             show_bytes(shown, name.text.as_slice())?;
             show_start(shown, start)?;
         }
-        UdpItem::Input(place, names) => {
-            let token = place.token;
+        UdpItem::Input(location, names) => {
+            let token = location.token;
             write!(shown, "{token}:i ")?;
             show_names(shown, names)?;
         }
-        UdpItem::Reg(place, name) => {
-            let token = place.token;
+        UdpItem::Reg(location, name) => {
+            let token = location.token;
             write!(shown, "{token}:r ")?;
             show_bytes(shown, name.text.as_slice())?;
         }
@@ -545,7 +624,7 @@ fn show_sym(shown: &mut String, sym: Sym) -> Result<(), AllocError> {
 }
 
 fn show_row(shown: &mut String, row: &PlacedRow) -> Result<(), AllocError> {
-    let token = row.place.token;
+    let token = row.location.token;
     write!(shown, "{token}[")?;
     for sym in row.row.ins.as_slice() {
         show_sym(shown, *sym)?;
@@ -560,7 +639,7 @@ fn show_row(shown: &mut String, row: &PlacedRow) -> Result<(), AllocError> {
 }
 
 fn show_udp(shown: &mut String, udp: &UdpDecl) -> Result<(), AllocError> {
-    let token = udp.place.token;
+    let token = udp.location.token;
     write!(shown, "{token}:")?;
     show_bytes(shown, udp.name.text.as_slice())?;
     shown.push_str(" (")?;
@@ -570,7 +649,7 @@ fn show_udp(shown: &mut String, udp: &UdpDecl) -> Result<(), AllocError> {
         show_udp_item(shown, item)?;
     }
     if let Some(initial) = &udp.initial {
-        let token = initial.place.token;
+        let token = initial.location.token;
         write!(shown, "{token}:")?;
         show_bytes(shown, initial.name.text.as_slice())?;
         shown.push('=')?;
@@ -587,18 +666,25 @@ fn show_udp(shown: &mut String, udp: &UdpDecl) -> Result<(), AllocError> {
     shown.push(';')
 }
 
+fn show_space(shown: &mut String) -> Result<(), AllocError> {
+    if !shown.is_empty() {
+        shown.push(' ')?;
+    }
+    Ok(())
+}
+
 fn show_file(shown: &mut String, file: &File) -> Result<(), AllocError> {
-    for (i, module) in file.modules.as_slice().iter().enumerate() {
-        if i > 0 {
-            shown.push(' ')?;
-        }
+    for module in file.modules.as_slice() {
+        show_space(shown)?;
         show_module(shown, module)?;
     }
-    for (i, udp) in file.udps.as_slice().iter().enumerate() {
-        if i > 0 || !file.modules.is_empty() {
-            shown.push(' ')?;
-        }
+    for udp in file.udps.as_slice() {
+        show_space(shown)?;
         show_udp(shown, udp)?;
+    }
+    for directive in file.directives.as_slice() {
+        show_space(shown)?;
+        show_directive(shown, directive)?;
     }
     Ok(())
 }

@@ -11,7 +11,7 @@ returns-in-Err-clause-stopped c =
 
 pub returns-in-Ok-parse-clause-ok : goal.returns-in-Ok-parse-clause-ok
 returns-in-Ok-parse-clause-ok c =
-    tree_is c.args.text.now c.in-Ok.tokens c.in-Ok-parse.file.modules c.in-Ok-parse.file.udps c.in-Ok-parse.ensures.exact.0 c.in-Ok.ensures.exact c.in-Ok-parse.ensures.exact.1
+    tree_is c.args.text.now c.in-Ok.tokens c.in-Ok-parse.file.modules c.in-Ok-parse.file.udps c.in-Ok-parse.file.directives c.in-Ok-parse.ensures.exact.0 c.in-Ok.ensures.exact c.in-Ok-parse.ensures.exact.1
 
 pub returns-clause-stopped : goal.returns-clause-stopped
 returns-clause-stopped c =

@@ -6,7 +6,7 @@ use Rattle.v_parser.proofs.Sorting.{sort_finish, many_refused, finish_refused, h
 use Rattle.v_parser.proofs.descriptions.descriptions.Goals as goal
 
 pub returns : goal.returns
-returns c = sort_finish c.args.cursor.now c.sorted.new.cursor c.finish.new.self c.in_ok-lists.lists.0 c.in_ok-lists.lists.1 c.in_ok-lists.ensures c.in_ok-finish.ensures
+returns c = sort_finish c.args.cursor.now c.sorted.new.cursor c.finish.new.self c.in_ok-lists.lists.0 c.in_ok-lists.lists.1 c.in_ok-lists.lists.2 c.in_ok-lists.ensures c.in_ok-finish.ensures
 
 pub returns-in_err-lists : goal.returns-in_err-lists
 returns-in_err-lists c =
@@ -19,4 +19,4 @@ returns-in_err-finish c =
     let refused : c.in_err-finish.field-0.0 ≢ Memory → finish c.sorted.new.cursor ≡ Err c.in_err-finish.field-0.0 = c.in_err-finish.ensures in
     let same : c.from_residual-in_err-finish.result ≡ Err c.in_err-finish.field-0.0 = search rules in
     handed_on (descriptions c.args.cursor.now) c.from_residual-in_err-finish.result c.in_err-finish.field-0.0 c.finish.new.self same
-    (λ other. finish_refused c.args.cursor.now c.sorted.new.cursor c.in_ok-lists.lists.0 c.in_ok-lists.lists.1 c.in_err-finish.field-0.0 c.in_ok-lists.ensures (refused other))
+    (λ other. finish_refused c.args.cursor.now c.sorted.new.cursor c.in_ok-lists.lists.0 c.in_ok-lists.lists.1 c.in_ok-lists.lists.2 c.in_err-finish.field-0.0 c.in_ok-lists.ensures (refused other))

@@ -6,4 +6,4 @@ use Rattle.v_parser.proofs.descriptions.sorted.Given as goal
 
 -- what was read so far is sorted, and the rest gives what is read from the beginning
 abbrev pub invariant-loop : goal.invariant-loop
-invariant-loop l = IsSorted (length l.fn.cursor.tokens - l.counter) l.modules l.udps l.cursor (many is_finish description l.fn.cursor)
+invariant-loop l = IsSorted (length l.fn.cursor.tokens - l.counter) l.modules.items l.udps.items l.directives.items l.cursor (many is_finish description l.fn.cursor)

@@ -16,5 +16,5 @@ exprs_at-loop-preserved t c =
     let below : c.loop.counter < length c.expr_at.new.cursor.tokens = omega arith in
     let comma : is_mark 44 (front c.loop.cursor) ≡ true = search rules in
     let read : expr_at c.args.depth (passed_comma c.loop.cursor) ≡ Ok (c.in_ok-expr_at-2.field-0, c.expr_at-in-loop.new.cursor) = search rules in
-    rw c.in_ok-push-2.ensures.ok (commas_step (expr_at c.args.depth) (length c.expr_at.new.cursor.tokens) c.loop.counter c.loop.parts c.loop.cursor c.expr_at-in-loop.new.cursor c.in_ok-expr_at-2.field-0
-    (commas (expr_at c.args.depth) c.push.new.self c.expr_at.new.cursor) below comma read c.loop.invariant)
+    rw c.in_ok-push-2.ensures.items (commas_step (expr_at c.args.depth) (length c.expr_at.new.cursor.tokens) c.loop.counter c.loop.parts.items c.loop.cursor c.expr_at-in-loop.new.cursor c.in_ok-expr_at-2.field-0
+    (commas (expr_at c.args.depth) c.push.new.self.items c.expr_at.new.cursor) below comma read c.loop.invariant)

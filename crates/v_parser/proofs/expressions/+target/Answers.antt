@@ -9,5 +9,5 @@ targets_at-loop-preserved t c =
     let below : c.loop.counter < length c.target_at.new.cursor.tokens = omega arith in
     let comma : is_mark 44 (front c.loop.cursor) ≡ true = search rules in
     let read : target_at c.args.depth (passed_comma c.loop.cursor) ≡ Ok (c.in_ok-target_at-2.field-0, c.target_at-in-loop.new.cursor) = search rules in
-    rw c.in_ok-push-2.ensures.ok (commas_step (target_at c.args.depth) (length c.target_at.new.cursor.tokens) c.loop.counter c.loop.parts c.loop.cursor c.target_at-in-loop.new.cursor c.in_ok-target_at-2.field-0
-    (commas (target_at c.args.depth) c.push.new.self c.target_at.new.cursor) below comma read c.loop.invariant)
+    rw c.in_ok-push-2.ensures.items (commas_step (target_at c.args.depth) (length c.target_at.new.cursor.tokens) c.loop.counter c.loop.parts.items c.loop.cursor c.target_at-in-loop.new.cursor c.in_ok-target_at-2.field-0
+    (commas (target_at c.args.depth) c.push.new.self.items c.target_at.new.cursor) below comma read c.loop.invariant)

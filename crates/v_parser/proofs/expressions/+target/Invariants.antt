@@ -11,4 +11,4 @@ decreases-targets_at l = 2 * l.depth + 1
 
 -- what is read from here on, behind what was found, is what is read from the beginning
 abbrev pub invariant-targets_at-loop : goal.invariant-targets_at-loop
-invariant-targets_at-loop l = commas_from (target_at l.depth) (length l.initial.cursor.tokens - l.counter) l.parts l.cursor ≡ commas (target_at l.depth) l.initial.parts l.initial.cursor
+invariant-targets_at-loop l = commas_from (target_at l.depth) (length l.initial.cursor.tokens - l.counter) l.parts.items l.cursor ≡ commas (target_at l.depth) l.initial.parts.items l.initial.cursor

@@ -12,9 +12,9 @@ returns-in-Ok-clause-found c =
 pub returns-in-Ok-clause-only : goal.returns-in-Ok-clause-only
 returns-in-Ok-clause-only c =
     let gives = subst (λ (tokens : List Token). GivesLists (descriptions_of c.args.text.now tokens) (Ok c.in-Ok.lists)) c.as_slice.ensures c.in-Ok.ensures.exact in
-    same_of c.args.text.now c.args.tokens.now _ gives
+    same_of c.args.text.now c.args.tokens.now _ c.requires.small c.requires.tokens gives
 
 pub returns-in-Err-clause-only : goal.returns-in-Err-clause-only
 returns-in-Err-clause-only c =
     let gives = subst (λ (tokens : List Token). GivesLists (descriptions_of c.args.text.now tokens) (Err c.in-Err.fault)) c.as_slice.ensures c.in-Err.ensures.exact in
-    memory_of c.args.text.now c.args.tokens.now c.in-Err.fault gives
+    memory_of c.args.text.now c.args.tokens.now c.in-Err.fault c.requires.small c.requires.tokens gives

@@ -3,7 +3,7 @@ use sqlite_items::Items;
 
 /// Where a token stands: its line, counted from 1, and its number in the list of tokens, counted from 0.
 #[derive(Clone, Copy, Debug, PartialEq, Eq)]
-pub struct Place {
+pub struct Location {
     pub line: u32,
     pub token: u32,
 }
@@ -11,7 +11,7 @@ pub struct Place {
 /// A name where it is written (IEEE 1364-2005, 3.7). The text of an escaped name is without its `\`.
 #[derive(Debug, Drop)]
 pub struct Name {
-    pub place: Place,
+    pub location: Location,
     pub text: Bytes,
 }
 

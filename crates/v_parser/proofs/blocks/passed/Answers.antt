@@ -1,0 +1,17 @@
+use Rattle.std.proofs.Common.{rules, arith, length, ◌≡◌, ◌<◌, ◌-◌, false, true}
+use Rattle.v_parser.specs.Input.{front}
+use Rattle.v_parser.specs.Blocks.{ends_block, passed}
+use Rattle.v_parser.proofs.Passing.{passed_step}
+use Rattle.v_parser.proofs.blocks.passed.Goals as goal
+
+pub overflow_add-count : goal.overflow_add-count
+overflow_add-count c = omega (arith, c.left-end.ensures.few, c.loop.invariant.counted, c.loop-test.true)
+
+pub loop-preserved : goal.loop-preserved
+loop-preserved c =
+    let below : c.loop.counter < length c.args.cursor.now.tokens = omega (arith, c.left-end.ensures.left, c.loop-test.true) in
+    let goes : ends_block (front c.loop.cursor) ≡ false = search rules in
+    record {
+      counted = omega (arith, c.loop.invariant.counted);
+      all = passed_step (length c.args.cursor.now.tokens) c.loop.counter c.loop.count c.loop.cursor c.advance.new.self (passed c.args.cursor.now) below goes c.advance.ensures c.loop.invariant.all;
+    }
