@@ -120,7 +120,7 @@ fn are_settled(links: &[Link], on: &[Conduct], own: &[i8; 3], bounds: &[i8; 3]) 
 
 /// How many lists of lower bounds are settled, and the last of them.
 pub fn settled_bounds(links: &[Link], on: &[Conduct], own: &[i8; 3]) -> (usize, [i8; 3]) {
-    let mut count = 0;
+    let mut count: usize = 0;
     let mut last = [0; 3];
     for code in 0..3_375 {
         let bounds = [
@@ -129,7 +129,7 @@ pub fn settled_bounds(links: &[Link], on: &[Conduct], own: &[i8; 3]) -> (usize, 
             (code / 225 % 15) as i8 - 7,
         ];
         if are_settled(links, on, own, &bounds) {
-            count += 1;
+            count = count.saturating_add(1);
             last = bounds;
         }
     }
