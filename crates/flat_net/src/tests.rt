@@ -287,17 +287,11 @@ fn has_patch(rt: &impl Abort, flat: &Flat, element: u32, patch: Patch) {
     assert_eq!(rt; flat.patch(Cell::Element(element)), patch);
 }
 
-fn copies(alloc: Global, flat: &Flat) -> Result<Parts, AllocError> {
-    flat.parts(alloc)
-}
-
 #[test]
 fn a_patch_is_that_of_its_cell_alone(rt: HostRuntime) -> Result<(), Fail> {
     let mut flat = flat(&rt, rt.alloc())?;
     open_first(&rt, &mut flat);
     has_patch(&rt, &flat, 0, Patch::Open);
     has_patch(&rt, &flat, 1, Patch::Whole);
-    let copy = copies(rt.alloc(), &flat)?;
-    assert!(rt; sound(rt.alloc(), &copy)?);
     Ok(())
 }
