@@ -1,7 +1,7 @@
 -- What a switch makes of a signal, and the hull of two signals.
 use Rattle.std.specs.Prelude.{◌≡◌, ℕ, suc, Bool, true, false, ℤ, pos, negsuc, nat_eq, if◌then◌else◌}
 use Rattle.std.specs.Int.{int_min, int_max}
-use Rattle.level_range.specs.Signal.{Signal, below}
+use Rattle.level_range.specs.Signal.{Signal, negative_level}
 use Rattle.level_range.specs.Levels.{HasLevel, Includes, IsFilled}
 
 -- a strength behind a switch: a non-resistive one weakens supply alone (IEEE 1364-2005, 7.11 and 7.12)
@@ -19,7 +19,7 @@ reduced_strength true n =
 -- a level behind a switch keeps its sign
 unfoldable pub reduced_level : Bool → ℤ → ℤ
 reduced_level resistive (pos n) = pos (reduced_strength resistive n)
-reduced_level resistive (negsuc n) = below (reduced_strength resistive (suc n))
+reduced_level resistive (negsuc n) = negative_level (reduced_strength resistive (suc n))
 
 -- the levels that the levels of the signal become
 abbrev pub Reduced : Bool → Signal → ℤ → Type 0

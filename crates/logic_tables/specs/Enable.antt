@@ -4,7 +4,7 @@ use Rattle.level_range.specs.declared.range.Logic.{Logic}
 use Rattle.level_range.specs.declared.range.Logic.TheVariants as value
 use Rattle.level_range.specs.declared.range.Conduct.{Conduct}
 use Rattle.level_range.specs.declared.range.Conduct.TheVariants.{On, Off, Unknown}
-use Rattle.level_range.specs.Signal.{Signal, below, span_of}
+use Rattle.level_range.specs.Signal.{Signal, negative_level, span_of}
 use Rattle.logic_tables.specs.declared.kinds.EnableKind.{EnableKind}
 use Rattle.logic_tables.specs.declared.kinds.EnableKind.TheVariants.{Bufif0, Bufif1, Notif0, Notif1}
 use Rattle.logic_tables.specs.declared.kinds.EnableOut.{EnableOut}
@@ -51,7 +51,7 @@ enable_span_of out.Zero s0 s1 = span_of value.Zero s0 s1
 enable_span_of out.One s0 s1 = span_of value.One s0 s1
 enable_span_of out.X s0 s1 = span_of value.X s0 s1
 enable_span_of out.Z s0 s1 = span_of value.Z s0 s1
-enable_span_of out.L s0 s1 = record { lo = below s0; hi = pos 0 }
+enable_span_of out.L s0 s1 = record { lo = negative_level s0; hi = pos 0 }
 enable_span_of out.H s0 s1 = record { lo = pos 0; hi = pos s1 }
 
 -- a switch that conducts for control 1, or for control 0
