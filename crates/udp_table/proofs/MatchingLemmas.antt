@@ -10,7 +10,7 @@ use Rattle.udp_table.specs.Pairs.{pairwise}
 use Rattle.udp_table.specs.LookUp.{level_inputs, edge_inputs}
 use Rattle.udp_table.proofs.Pairs.{pairwise-append, pairwise-short}
 
-same_value-self : (v : Logic) → same_value v v ≡ true
+pub same_value-self : (v : Logic) → same_value v v ≡ true
 same_value-self Zero = refl
 same_value-self One = refl
 same_value-self X = refl
