@@ -5,7 +5,7 @@ use byte_lists::{Bytes, NameList, NetList};
 use list_of::ListOf;
 use net_settle::{KindList, LevelList, LinkList, Shape};
 use std::alloc::{AllocError, Global};
-use udp_table::{Udp, build};
+use udp_table::Udp;
 
 /// What can be copied.
 trait Copied: Drop + Sized {
@@ -92,15 +92,7 @@ impl Copied for Island {
 
 impl Copied for Udp {
     fn copied(&self, alloc: Global) -> Result<Udp, AllocError> {
-        // its parts are such as `build` accepts, so that only memory can be wanting
-        build(
-            alloc,
-            self.inputs(),
-            self.sequential(),
-            self.start(),
-            self.rows(),
-        )
-        .map_err(|_| AllocError)
+        Udp::copied(self, alloc)
     }
 }
 

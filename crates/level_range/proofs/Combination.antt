@@ -1,18 +1,17 @@
 -- The combination of a list, by bounds.
-use Rattle.std.specs.Prelude.{◌≡◌, ◌⊎◌, ℤ, pos, ◌≤ℤ◌, List, [], ◌∷◌, ◌++◌, map, fold}
+use Rattle.std.specs.Prelude.{◌≡◌, ◌⊎◌, ℤ, pos, ◌≤ℤ◌, List, [], ◌∷◌, ◌++◌, map, fold, refl}
 use Rattle.std.specs.List.{All}
 use Rattle.std.specs.List.Sorted.{IsPermutation}
 use Rattle.std.proofs.Common.{arith, ap, sym, ◌∙◌, inl, inr, subst, append_assoc, append-nil}
 use Rattle.std.proofs.lemmas.Int.{ints}
 use Rattle.std.proofs.lemmas.List.{map-append}
-use Rattle.std.proofs.lemmas.List.Sums.{fold_push}
 use Rattle.std.proofs.lemmas.List.Elements.{All-cons, All-head, All-tail, All-append}
 use Rattle.std.proofs.lemmas.List.Sorted.{IsPermutation-refl, IsPermutation-map, All-permutation}
 use Rattle.level_range.specs.declared.range.Kind.{Kind}
 use Rattle.level_range.specs.declared.range.Kind.TheVariants.{Plain, And, Or}
 use Rattle.level_range.specs.Signal.{Signal, undriven, IsSignal}
 use Rattle.level_range.specs.Levels.{IsFilled}
-use Rattle.level_range.specs.Combine.{IsChoice, Wins, Gives, Combined, IsCombination, better_low, better_high, lower_of, upper_of, joined, combination_of, JoinsNext}
+use Rattle.level_range.specs.Combine.{IsChoice, Wins, Gives, Combined, IsCombination, better_low, better_high, lower_of, upper_of, joined, combination_of, CombinationLaw}
 use Rattle.level_range.proofs.Better.{IsBetter, lower, upper}
 use Rattle.level_range.proofs.Best.{best, best-append, best-wins, best-first, best-permutation}
 
@@ -254,11 +253,54 @@ upper_of-high kind greatest x y h k = elim (upper_of-picks kind x y) [ inl e ↦
 pub lower_of-upper_of : (kind : Kind) (x y u v : ℤ) → x ≤ℤ u → y ≤ℤ v → lower_of kind x y ≤ℤ upper_of kind u v
 lower_of-upper_of kind x y u v h k = joined-some kind (record { lo = x; hi = u }) (record { lo = y; hi = v }) h k
 
-pub joined-next : (kind : Kind) (a b : Signal) → JoinsNext kind a b (joined kind a b)
-unfolding JoinsNext
-joined-next kind a b signals all is_b is_a =
-    let e : joined kind a b ≡ combination_of kind (signals ++ b ∷ []) =
-    ap (λ s. joined kind s b) is_a ∙ sym (fold_push (joined kind) undriven signals b) in
-    let some : All HasSome (signals ++ b ∷ []) = λ k d lt.
-    (All-append IsSignal signals (b ∷ []) all (All-cons IsSignal b [] is_b (λ j x h. absurd (omega (arith, h)))) k d lt).order in
-    (e, subst (IsCombination kind (signals ++ b ∷ [])) (sym e) (combination_of-is kind (signals ++ b ∷ []) some))
+some-levels : (signals : List Signal) → All IsSignal signals → All HasSome signals
+some-levels signals all = λ k d lt. (all k d lt).order
+
+-- the only combination of signals with levels has levels, since some choice gives one
+IsCombination-only : (kind : Kind) (signals : List Signal) (s : Signal) → All HasSome signals → IsCombination kind signals s →
+    s ≡ bounds_of kind signals
+unfolding IsCombination
+IsCombination-only kind signals s all is =
+    let some = bounds_of-some kind signals all in
+    let level = (is (bounds_of kind signals).lo).1 ((bounds_of-is kind signals all (bounds_of kind signals).lo).0 (record { from_lo = self _; to_hi = some })) in
+    IsCombination-bounds kind signals s (trans _ _ _ level.from_lo level.to_hi) is
+
+combination_of-bounds : (kind : Kind) (signals : List Signal) → All HasSome signals → combination_of kind signals ≡ bounds_of kind signals
+combination_of-bounds kind signals all = IsCombination-only kind signals _ all (combination_of-is kind signals all)
+
+joined-signal : (kind : Kind) (a b : Signal) → IsSignal a → IsSignal b → IsSignal (joined kind a b)
+joined-signal kind a b is_a is_b = record {
+  low = lower_of-low kind _ _ _ is_a.low is_b.low;
+  order = joined-some kind a b is_a.order is_b.order;
+  high = upper_of-high kind _ _ _ is_a.high is_b.high;
+}
+
+fold-signal : (kind : Kind) (s : Signal) (signals : List Signal) → IsSignal s → All IsSignal signals → IsSignal (fold (joined kind) s signals)
+fold-signal kind s [] is all = is
+fold-signal kind s (t ∷ rest) is all =
+    fold-signal kind (joined kind s t) rest (joined-signal kind s t is (All-head IsSignal t rest all)) (All-tail IsSignal t rest all)
+
+-- the combination of a list, as one law
+pub combination-law : (kind : Kind) → CombinationLaw kind
+combination-law kind = record {
+  none = refl;
+  one = λ s is. combination_of-bounds kind (s ∷ []) (alone s is.order)
+      ∙ sym (IsCombination-only kind (s ∷ []) s (alone s is.order) (one-signal kind s is.order));
+  is = λ signals all. combination_of-is kind signals (some-levels signals all);
+  only = λ signals s all is. IsCombination-only kind signals s (some-levels signals all) is
+      ∙ sym (combination_of-bounds kind signals (some-levels signals all));
+  order = λ signals others all moved. combination_of-bounds kind signals (some-levels signals all)
+      ∙ bounds-moved kind signals others moved
+      ∙ sym (combination_of-bounds kind others (All-permutation HasSome signals others moved (some-levels signals all)));
+  grouping = λ signals others all all_others.
+      let first = some-levels signals all in
+      let second = some-levels others all_others in
+      combination_of-bounds kind (signals ++ others) (All-append HasSome signals others first second)
+      ∙ sym (joined-bounds kind signals others)
+      ∙ ap (λ s. joined kind s (bounds_of kind others)) (sym (combination_of-bounds kind signals first))
+      ∙ ap (joined kind (combination_of kind signals)) (sym (combination_of-bounds kind others second));
+  signal = λ signals all. fold-signal kind undriven signals (record { low = omega (arith, ints); order = self _; high = omega (arith, ints) }) all;
+}
+  where
+    alone : (s : Signal) → HasSome s → All HasSome (s ∷ [])
+    alone s some = All-cons HasSome s [] some (λ k d lt. absurd (omega (arith, lt)))

@@ -2,7 +2,7 @@
 use Rattle.std.specs.Prelude.{◌≡◌, ◌≤◌, ◌<◌, ℕ, zero, suc, ◌+◌, ◌-◌, Bool, true, false, ℤ, pos, negsuc, ◌≤ℤ◌, unsigned_abs, int_lt, refl}
 use Rattle.std.proofs.Common.{arith, add-zero}
 use Rattle.std.proofs.lemmas.Int.{ints, clamps}
-use Rattle.level_range.specs.Signal.{Signal, below, reads, undriven, IsSignal}
+use Rattle.level_range.specs.Signal.{Signal, negative_level, reads, undriven, IsSignal}
 use Rattle.level_range.specs.Levels.{Includes}
 use Rattle.level_range.proofs.Combination.{self, trans}
 use Rattle.level_range.specs.Combine.{better_low, better_high}
@@ -26,11 +26,11 @@ reduced_strength-le resistive m n h =
     let e : m + (n - m) ≡ n = omega arith in
     rw e at (reduced_strength-monotone resistive m (n - m))
 
-below-le-pos : (m n : ℕ) → below m ≤ℤ pos n
-below-le-pos m n = grind (arith, ints)
+negative_level-le-pos : (m n : ℕ) → negative_level m ≤ℤ pos n
+negative_level-le-pos m n = grind (arith, ints)
 
-below-le-below : (m n : ℕ) → m ≤ n → below n ≤ℤ below m
-below-le-below m n h = grind (arith, ints)
+negative_level-le-negative_level : (m n : ℕ) → m ≤ n → negative_level n ≤ℤ negative_level m
+negative_level-le-negative_level m n h = grind (arith, ints)
 
 -- no strength is greater behind a switch, and none is lost
 reduced_strength-weaker : (resistive : Bool) (n : ℕ) → reduced_strength resistive n ≤ n
@@ -47,9 +47,9 @@ unfolding reduced_level
 reduced_level-monotone resistive (pos m) (pos n) h =
     let le = reduced_strength-le resistive m n (omega (arith, ints)) in omega (arith, ints)
 reduced_level-monotone resistive (pos m) (negsuc n) h = absurd (omega (arith, ints))
-reduced_level-monotone resistive (negsuc m) (pos n) h = below-le-pos (reduced_strength resistive (suc m)) (reduced_strength resistive n)
+reduced_level-monotone resistive (negsuc m) (pos n) h = negative_level-le-pos (reduced_strength resistive (suc m)) (reduced_strength resistive n)
 reduced_level-monotone resistive (negsuc m) (negsuc n) h =
-    below-le-below _ _ (reduced_strength-le resistive (suc n) (suc m) (omega (arith, ints)))
+    negative_level-le-negative_level _ _ (reduced_strength-le resistive (suc n) (suc m) (omega (arith, ints)))
 
 pub reduced_level-low : (resistive : Bool) (v : ℤ) → negsuc 6 ≤ℤ v → negsuc 6 ≤ℤ reduced_level resistive v
 unfolding reduced_level

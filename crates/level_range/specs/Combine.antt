@@ -66,14 +66,16 @@ joined kind a b = record { lo = lower_of kind a.lo b.lo; hi = upper_of kind a.hi
 abbrev pub combination_of : Kind → List Signal → Signal
 combination_of kind signals = fold (joined kind) undriven signals
 
--- s is the combination of any two lists together, in any order, whose combinations are a and b
-unfoldable pub JoinsLists : Kind → Signal → Signal → Signal → Type 0
-JoinsLists kind a b s =
-    (xs ys zs : List Signal) → IsCombination kind xs a → IsCombination kind ys b → IsPermutation (xs ++ ys) zs
-    → IsCombination kind zs s
-
--- where a is the combination of a list, s is that of the list with b at its end
-unfoldable pub JoinsNext : Kind → Signal → Signal → Signal → Type 0
-JoinsNext kind a b s =
-    (signals : List Signal) → All IsSignal signals → IsSignal b → a ≡ combination_of kind signals
-    → (s ≡ combination_of kind (signals ++ b ∷ [])) × IsCombination kind (signals ++ b ∷ []) s
+-- The combination of a list of signals, in any order and grouping: it is the signals joined one after the other, it is
+-- the only signal that all choices give, and that of two lists together is that of the one joined with that of the other.
+pub record CombinationLaw (kind : Kind) : Type 0 where
+  pub none : combination_of kind [] ≡ undriven
+  pub one : (s : Signal) → IsSignal s → combination_of kind (s ∷ []) ≡ s
+  pub is : (signals : List Signal) → All IsSignal signals → IsCombination kind signals (combination_of kind signals)
+  pub only : (signals : List Signal) (s : Signal) → All IsSignal signals → IsCombination kind signals s
+      → s ≡ combination_of kind signals
+  pub order : (signals others : List Signal) → All IsSignal signals → IsPermutation signals others
+      → combination_of kind signals ≡ combination_of kind others
+  pub grouping : (signals others : List Signal) → All IsSignal signals → All IsSignal others
+      → combination_of kind (signals ++ others) ≡ joined kind (combination_of kind signals) (combination_of kind others)
+  pub signal : (signals : List Signal) → All IsSignal signals → IsSignal (combination_of kind signals)

@@ -18,7 +18,8 @@ pub record IsSignal (s : Signal) : Type 0 where
   pub order : s.lo ≤ℤ s.hi
   pub high : s.hi ≤ℤ pos 7
 
--- 0 where all levels are below 0, 1 where all are above, z where the only level is 0, else x
+-- 0 where all levels are below 0, 1 where all are above, z where the only level is 0, else x: where levels of both
+-- signs are possible, and where 0 is beside those of one sign
 abbrev pub reads : Signal → Logic
 reads s =
     if int_lt s.hi (pos 0) then Zero
@@ -39,12 +40,14 @@ mnemonic level =
     else if nat_eq level 1 then codes "Sm"
     else codes "Hi"
 
--- one strength by its letters, or a greater and a smaller one by their digits
+-- two strengths, in the order given: by the letters where they are equal, else by a digit each
 abbrev pub strengths : ℕ → ℕ → List ℕ
 strengths a b = if nat_eq a b then mnemonic a else (48 + a) ∷ (48 + b) ∷ []
 
--- the three characters of `%v` (IEEE 1364-2005, 17.1.1.5); a signal of value 0 or 1 that has a range prints its
--- greatest and its least strength, which is this project's own
+-- The three characters of `%v` (IEEE 1364-2005, 17.1.1.5). A signal of value 0 or 1 prints its greatest strength and
+-- then its least. X prints the greatest strength of value 0 and then that of value 1, whichever of the two is greater.
+-- L and H, from 0 to levels of value 0 and of value 1, print the greatest strength. How a range prints is this
+-- project's own.
 abbrev pub shown : Signal → List ℕ
 shown s =
     if int_lt s.hi (pos 0) then strengths (unsigned_abs s.lo) (unsigned_abs s.hi) ++ codes "0"
@@ -55,14 +58,14 @@ shown s =
     else if int_lt (pos 0) s.hi then mnemonic (unsigned_abs s.hi) ++ codes "H"
     else codes "HiZ"
 
--- a strength of value 0 as a level
-abbrev pub below : ℕ → ℤ
-below zero = pos 0
-below (suc k) = negsuc k
+-- the level of a strength for value 0
+abbrev pub negative_level : ℕ → ℤ
+negative_level zero = pos 0
+negative_level (suc k) = negsuc k
 
 -- what a result drives with strength s0 for 0 and s1 for 1
 abbrev pub span_of : Logic → ℕ → ℕ → Signal
-span_of Zero s0 s1 = record { lo = below s0; hi = below s0 }
+span_of Zero s0 s1 = record { lo = negative_level s0; hi = negative_level s0 }
 span_of One s0 s1 = record { lo = pos s1; hi = pos s1 }
-span_of X s0 s1 = record { lo = below s0; hi = pos s1 }
+span_of X s0 s1 = record { lo = negative_level s0; hi = pos s1 }
 span_of Z s0 s1 = record { lo = pos 0; hi = pos 0 }

@@ -1,5 +1,5 @@
 ghost use Rattle.std.specs.Prelude.{◌≡◌, [], ◌∷◌};
-ghost use Rattle.level_range.specs.Combine.{better_low as low_of, better_high as high_of, lower_of, upper_of, joined, IsCombination, JoinsLists, JoinsNext};
+ghost use Rattle.level_range.specs.Combine.{better_low as low_of, better_high as high_of, lower_of, upper_of, joined, IsCombination};
 
 use crate::range::{Kind, Range};
 
@@ -53,14 +53,12 @@ fn upper_bound(x: i8, y: i8, kind: Kind) -> i8
 
 /// The signal of a net with two drivers (IEEE 1364-2005, 7.10).
 ///
-/// Joining the signals of a list pair by pair, in any order and grouping, gives the combination
-/// of the list. What an ambiguous strength gives against an equal or another ambiguous one is
-/// this project's own.
+/// By the law of combinations (`CombinationLaw`), joining the signals of a list pair by pair, in any
+/// order and grouping, gives the one combination of the list. What an ambiguous strength gives
+/// against an equal or another ambiguous one is this project's own.
 pub fn join(a: Range, b: Range, kind: Kind) -> Range
     ensures bounds { result ≡ joined kind a b }
     ensures combination { IsCombination kind (a ∷ b ∷ []) result }
-    ensures any_order { JoinsLists kind a b result }
-    ensures next { JoinsNext kind a b result }
 {
     Range::new(lower_bound(a.lo, b.lo, kind), upper_bound(a.hi, b.hi, kind))
 }

@@ -1,7 +1,6 @@
 ghost use Rattle.std.specs.Prelude.{◌≡◌, ◌≤◌, unsigned_abs};
-ghost use Rattle.level_range.specs.Signal.{Signal, IsSignal, reads, undriven};
-ghost use Rattle.level_range.specs.Levels.{Includes};
-ghost use Rattle.level_range.specs.Reduce.{reduced_strength as strength_of, reduced_level as level_of, reduced, IsReduction, IsHull, hull_of};
+ghost use Rattle.level_range.specs.Signal.{reads, undriven};
+ghost use Rattle.level_range.specs.Reduce.{reduced_strength as strength_of, reduced_level as level_of, reduced, IsReduction, IncludesImages, IsHull, hull_of, hull_with_z};
 
 use crate::range::Range;
 
@@ -38,7 +37,7 @@ pub fn reduce(a: Range, resistive: bool) -> Range
     ensures reading { reads result ≡ reads a }
     ensures weaker_lo { unsigned_abs result.lo ≤ unsigned_abs a.lo }
     ensures weaker_hi { unsigned_abs result.hi ≤ unsigned_abs a.hi }
-    ensures monotone { (b : Signal) → IsSignal b → Includes a b → Includes result (reduced resistive b) }
+    ensures monotone { IncludesImages result (reduced resistive) a }
 {
     Range::new(
         reduced_level(a.lo, resistive),
@@ -50,7 +49,7 @@ pub fn reduce(a: Range, resistive: bool) -> Range
 pub fn maybe(a: Range) -> Range
     ensures bounds { result ≡ hull_of a undriven }
     ensures hull { IsHull a undriven result }
-    ensures monotone { (b : Signal) → IsSignal b → Includes a b → Includes result (hull_of b undriven) }
+    ensures monotone { IncludesImages result hull_with_z a }
 {
     Range::new(a.lo.min(0), a.hi.max(0))
 }

@@ -9,10 +9,10 @@ use Rattle.std.specs.List.{flat_map}
 use Rattle.level_range.specs.declared.range.Logic.{Logic}
 use Rattle.level_range.specs.declared.range.Logic.TheVariants.{Zero, One, X, Z}
 use Rattle.logic_tables.specs.Cells.{cell_of, only_cell, and_cells, or_cells, xor_cells, not_cells}
-use Rattle.logic_tables.specs.Folded.{folded}
+use Rattle.logic_tables.specs.TableFold.{table_fold}
 use Rattle.logic_tables.specs.declared.kinds.FoldKind.{FoldKind}
 use Rattle.logic_tables.specs.declared.kinds.FoldKind.TheVariants.{And, Nand, Or, Nor, Xor, Xnor, Buf, Not}
-use Rattle.logic_tables.specs.Fold.{choices_of, choices, is_odd, all_bits, any_bit, image, fold_of, Takes}
+use Rattle.logic_tables.specs.Fold.{choices_of, choices, is_odd, all_bits, any_bit, image, gate_value, Takes}
 
 -- a list that has an element
 abbrev pub HasSome : {A : Type 0} → List A → Type 0
@@ -136,12 +136,12 @@ module _ (gate : List Bool → Bool) (step : Bool → Bool → Bool) (cells : Li
       sym (unit_left (all_bits (map gate (choices pins))) (any_bit (map gate (choices pins))))
       ∙ sym (fold-from unit pins) ∙ ap (λ u. fold (cell_of cells) u pins) unit_twice
 
-pub and-fold : (pins : List Logic) → fold_of And pins ≡ fold (cell_of and_cells) One pins
+pub and-fold : (pins : List Logic) → gate_value And pins ≡ fold (cell_of and_cells) One pins
 and-fold pins =
     image-fold all_bits ◌&&◌ and_cells One (λ b bits. refl) refl
     (λ pin a n h. grind (arith, h)) refl (λ a n. grind arith) (λ a b. grind arith) (λ a b c. grind arith) pins
 
-pub or-fold : (pins : List Logic) → fold_of Or pins ≡ fold (cell_of or_cells) Zero pins
+pub or-fold : (pins : List Logic) → gate_value Or pins ≡ fold (cell_of or_cells) Zero pins
 or-fold pins =
     image-fold any_bit ◌||◌ or_cells Zero (λ b bits. refl) refl
     (λ pin a n h. grind (arith, h)) refl (λ a n. grind arith) (λ a b. grind arith) (λ a b c. grind arith) pins
@@ -153,7 +153,7 @@ is_odd-cons : (b : Bool) (bits : List Bool) → is_odd (b ∷ bits) ≡ (if b th
 is_odd-cons true bits = rw (sum_by-cons (λ b. cond b 1 0) true bits) (odd_next _)
 is_odd-cons false bits = rw (sum_by-cons (λ b. cond b 1 0) false bits) (rw zero-add refl)
 
-pub xor-fold : (pins : List Logic) → fold_of Xor pins ≡ fold (cell_of xor_cells) Zero pins
+pub xor-fold : (pins : List Logic) → gate_value Xor pins ≡ fold (cell_of xor_cells) Zero pins
 xor-fold pins =
     image-fold is_odd (λ b r. if b then not r else r) xor_cells Zero is_odd-cons refl
     (λ pin a n h. grind (arith, h)) refl (λ a n. grind arith) (λ a b. grind arith) (λ a b c. grind arith) pins
@@ -170,16 +170,16 @@ image-not gate pins =
         value_of ((not true || not n) && (not false || a)) ((not true && n) || (not false && not a)) ≡ only_cell not_cells (value_of a n)
     inverse a n h = grind (arith, h)
 
-pub fold_of_is_folded : (kind : FoldKind) (pins : List Logic) → Takes kind (length pins) → fold_of kind pins ≡ folded kind pins
-fold_of_is_folded And pins h = and-fold pins
-fold_of_is_folded Nand pins h = image-not all_bits pins ∙ ap (only_cell not_cells) (and-fold pins)
-fold_of_is_folded Or pins h = or-fold pins
-fold_of_is_folded Nor pins h = image-not any_bit pins ∙ ap (only_cell not_cells) (or-fold pins)
-fold_of_is_folded Xor pins h = xor-fold pins
-fold_of_is_folded Xnor pins h = image-not is_odd pins ∙ ap (only_cell not_cells) (xor-fold pins)
-fold_of_is_folded Buf [] h = absurd (omega (arith, h))
-fold_of_is_folded Buf (pin ∷ []) h = grind arith
-fold_of_is_folded Buf (pin ∷ q ∷ pins) h = absurd (omega (arith, h))
-fold_of_is_folded Not [] h = absurd (omega (arith, h))
-fold_of_is_folded Not (pin ∷ []) h = grind arith
-fold_of_is_folded Not (pin ∷ q ∷ pins) h = absurd (omega (arith, h))
+pub gate_value_is_table_fold : (kind : FoldKind) (pins : List Logic) → Takes kind (length pins) → gate_value kind pins ≡ table_fold kind pins
+gate_value_is_table_fold And pins h = and-fold pins
+gate_value_is_table_fold Nand pins h = image-not all_bits pins ∙ ap (only_cell not_cells) (and-fold pins)
+gate_value_is_table_fold Or pins h = or-fold pins
+gate_value_is_table_fold Nor pins h = image-not any_bit pins ∙ ap (only_cell not_cells) (or-fold pins)
+gate_value_is_table_fold Xor pins h = xor-fold pins
+gate_value_is_table_fold Xnor pins h = image-not is_odd pins ∙ ap (only_cell not_cells) (xor-fold pins)
+gate_value_is_table_fold Buf [] h = absurd (omega (arith, h))
+gate_value_is_table_fold Buf (pin ∷ []) h = grind arith
+gate_value_is_table_fold Buf (pin ∷ q ∷ pins) h = absurd (omega (arith, h))
+gate_value_is_table_fold Not [] h = absurd (omega (arith, h))
+gate_value_is_table_fold Not (pin ∷ []) h = grind arith
+gate_value_is_table_fold Not (pin ∷ q ∷ pins) h = absurd (omega (arith, h))

@@ -3,7 +3,7 @@ use Rattle.std.specs.Prelude.{◌≡◌, ℕ, List, [], ◌∷◌, Option, Some,
 use Rattle.level_range.specs.declared.range.Logic.{Logic}
 use Rattle.level_range.specs.declared.range.Logic.TheVariants.{Zero, One, X, Z}
 use Rattle.logic_tables.specs.declared.kinds.FoldKind.{FoldKind}
-use Rattle.logic_tables.specs.Fold.{fold_of}
+use Rattle.logic_tables.specs.Fold.{gate_value}
 
 -- rows and columns go 0, 1, x, z
 abbrev pub place_of : Logic → ℕ
@@ -27,11 +27,11 @@ only_cell cells a = slice_index_or (slice_index_or cells (place_of a) []) 0 X
 -- each cell of the table is what the gate gives for its row's and its column's value
 abbrev pub IsTableOfTwo : FoldKind → List (List Logic) → Type 0
 IsTableOfTwo kind cells =
-    (a b : Logic) → cell_at cells (place_of a) (place_of b) ≡ Some (fold_of kind (a ∷ b ∷ []))
+    (a b : Logic) → cell_at cells (place_of a) (place_of b) ≡ Some (gate_value kind (a ∷ b ∷ []))
 
 -- each row of the table has what the gate gives for the row's value
 abbrev pub IsTableOfOne : FoldKind → List (List Logic) → Type 0
-IsTableOfOne kind cells = (a : Logic) → cell_at cells (place_of a) 0 ≡ Some (fold_of kind (a ∷ []))
+IsTableOfOne kind cells = (a : Logic) → cell_at cells (place_of a) 0 ≡ Some (gate_value kind (a ∷ []))
 
 -- and of two inputs
 abbrev pub and_cells : List (List Logic)

@@ -4,7 +4,7 @@ use Rattle.level_range.specs.declared.range.Logic.{Logic}
 use Rattle.level_range.specs.declared.range.Logic.TheVariants as value
 use Rattle.level_range.specs.declared.range.Conduct.{Conduct}
 use Rattle.level_range.specs.declared.range.Conduct.TheVariants.{On, Off, Unknown}
-use Rattle.level_range.specs.Signal.{Signal, below, span_of}
+use Rattle.level_range.specs.Signal.{Signal, negative_level, span_of}
 use Rattle.logic_tables.specs.declared.kinds.EnableKind.{EnableKind}
 use Rattle.logic_tables.specs.declared.kinds.EnableKind.TheVariants.{Bufif0, Bufif1, Notif0, Notif1}
 use Rattle.logic_tables.specs.declared.kinds.EnableOut.{EnableOut}
@@ -18,25 +18,25 @@ opposite value.X = value.X
 opposite value.Z = value.Z
 
 -- the data of an enabled gate: 0, 1 and x pass, and z becomes x
-abbrev pub passed : Logic → EnableOut
-passed value.Zero = out.Zero
-passed value.One = out.One
-passed value.X = out.X
-passed value.Z = out.X
+abbrev pub enabled_output : Logic → EnableOut
+enabled_output value.Zero = out.Zero
+enabled_output value.One = out.One
+enabled_output value.X = out.X
+enabled_output value.Z = out.X
 
 -- the data of a gate that may be enabled: 0 or z, 1 or z, else x
-abbrev pub maybe_passed : Logic → EnableOut
-maybe_passed value.Zero = out.L
-maybe_passed value.One = out.H
-maybe_passed value.X = out.X
-maybe_passed value.Z = out.X
+abbrev pub possible_output : Logic → EnableOut
+possible_output value.Zero = out.L
+possible_output value.One = out.H
+possible_output value.X = out.X
+possible_output value.Z = out.X
 
 -- bufif1, of its data and its control
 abbrev pub bufif1_of : Logic → Logic → EnableOut
 bufif1_of d value.Zero = out.Z
-bufif1_of d value.One = passed d
-bufif1_of d value.X = maybe_passed d
-bufif1_of d value.Z = maybe_passed d
+bufif1_of d value.One = enabled_output d
+bufif1_of d value.X = possible_output d
+bufif1_of d value.Z = possible_output d
 
 -- bufif0 inverts the control, notif1 the data, notif0 both
 abbrev pub enable_of : EnableKind → Logic → Logic → EnableOut
@@ -51,7 +51,7 @@ enable_span_of out.Zero s0 s1 = span_of value.Zero s0 s1
 enable_span_of out.One s0 s1 = span_of value.One s0 s1
 enable_span_of out.X s0 s1 = span_of value.X s0 s1
 enable_span_of out.Z s0 s1 = span_of value.Z s0 s1
-enable_span_of out.L s0 s1 = record { lo = below s0; hi = pos 0 }
+enable_span_of out.L s0 s1 = record { lo = negative_level s0; hi = pos 0 }
 enable_span_of out.H s0 s1 = record { lo = pos 0; hi = pos s1 }
 
 -- a switch that conducts for control 1, or for control 0

@@ -46,8 +46,8 @@ abbrev pub image : List Bool → Logic
 image results = if all_bits results then One else if any_bit results then X else Zero
 
 -- the value of a gate on a list of inputs
-abbrev pub fold_of : FoldKind → List Logic → Logic
-fold_of kind pins = image (map (boolean kind) (choices pins))
+abbrev pub gate_value : FoldKind → List Logic → Logic
+gate_value kind pins = image (map (boolean kind) (choices pins))
 
 -- how many pins a gate takes: one alone for buf and not, else one or more
 abbrev pub Takes : FoldKind → ℕ → Type 0

@@ -1,4 +1,4 @@
 pub mod Fold
 pub mod Cells
-pub mod Folded
+pub mod TableFold
 pub mod Enable

@@ -9,7 +9,7 @@ use Rattle.std.proofs.lemmas.List.Folds.{list_any_none, list_any_at}
 use Rattle.level_range.specs.Signal.{Signal, reads}
 use Rattle.level_range.specs.declared.range.Logic.{Logic}
 use Rattle.level_range.specs.declared.range.Logic.TheVariants.{X, Z}
-use Rattle.logic_tables.specs.Fold.{fold_of}
+use Rattle.logic_tables.specs.Fold.{gate_value}
 use Rattle.logic_tables.specs.declared.kinds.FoldKind.TheVariants.{Nand}
 use Rattle.gate_net.specs.Sound.{IsSound, driven_nets}
 use Rattle.gate_net.specs.declared.netlist.Gate.{Gate}
@@ -145,7 +145,7 @@ module _ (netlist : Netlist) (sound : IsSound netlist) (old new : Values) (m : M
       let gate = gate_at netlist k in
       let in_range = (sound.gates k no_gate h).inputs in
       let pins : map (λ n. reads (get_or nets n fresh_net).seen) gate.inputs ≡ map (logic_at new.seen) gate.inputs = next_pins new.seen nets gate.inputs (λ j lt. at_net (get_or gate.inputs j 0) (in_range j lt)) in
-      ap (λ (ps : List Logic). strong (fold_of Nand ps)) pins ∙ ap strong (sym (passed.targets k h))
+      ap (λ (ps : List Logic). strong (gate_value Nand ps)) pins ∙ ap strong (sym (passed.targets k h))
 
   next_elements : List ElementState
   next_elements = map (λ k. evaluated m.time (gate_at netlist k) nets (get_or elements k fresh_element)) (range_with_len 0 (length netlist.gates))

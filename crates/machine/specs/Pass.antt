@@ -4,7 +4,7 @@ use Rattle.std.specs.Ordering.{int_eq}
 use Rattle.std.specs.List.{filter_map, list_any, range_with_len}
 use Rattle.level_range.specs.Signal.{Signal, reads}
 use Rattle.level_range.specs.declared.range.Logic.TheVariants.{Z}
-use Rattle.logic_tables.specs.Fold.{fold_of}
+use Rattle.logic_tables.specs.Fold.{gate_value}
 use Rattle.logic_tables.specs.declared.kinds.FoldKind.TheVariants.{Nand}
 use Rattle.gate_net.specs.declared.netlist.Gate.{Gate}
 use Rattle.gate_net.specs.declared.netlist.Netlist.{Netlist}
@@ -67,7 +67,7 @@ settled_net netlist elements inputs n =
 
 -- what a gate would give for the signals that it sees
 abbrev pub target_of : Gate → List NetState → Signal
-target_of gate nets = strong (fold_of Nand (map (λ n. reads (slice_index_or nets n fresh_net).seen) gate.inputs))
+target_of gate nets = strong (gate_value Nand (map (λ n. reads (slice_index_or nets n fresh_net).seen) gate.inputs))
 
 -- an element's target becomes pending, without delay
 abbrev pub evaluated : ℕ → Gate → List NetState → ElementState → ElementState

@@ -2,7 +2,7 @@
 use Rattle.std.specs.Prelude.{◌≡◌, ◌≢◌, ℕ, ◌<◌, Bool, true, false, List, length, map, slice_index_or, Some, None, if◌then◌else◌}
 use Rattle.level_range.specs.declared.range.Logic.{Logic}
 use Rattle.level_range.specs.declared.range.Logic.TheVariants.{Zero, One, X, Z}
-use Rattle.logic_tables.specs.Fold.{fold_of}
+use Rattle.logic_tables.specs.Fold.{gate_value}
 use Rattle.logic_tables.specs.declared.kinds.FoldKind.TheVariants.{Nand}
 use Rattle.gate_net.specs.declared.netlist.Gate.{Gate}
 use Rattle.gate_net.specs.declared.netlist.Netlist.{Netlist}
@@ -67,7 +67,7 @@ pub record AreShown (netlist : Netlist) (values : Values) (m : Machine) : Type 0
 
 -- what a gate gives for the values that it sees
 abbrev pub next_value : Gate → List Logic → Logic
-next_value gate seen = fold_of Nand (map (logic_at seen) gate.inputs)
+next_value gate seen = gate_value Nand (map (logic_at seen) gate.inputs)
 
 -- what the two phases make of the values
 pub record ArePassed (netlist : Netlist) (old new : Values) : Type 0 where

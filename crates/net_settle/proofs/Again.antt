@@ -3,7 +3,7 @@ use Rattle.std.proofs.Common.{◌≡◌, ℕ, zero, suc, ◌+◌, ◌*◌, ◌<�
 use Rattle.std.specs.Prelude.{ℤ, pos, ◌⊎◌, int_lt}
 use Rattle.std.proofs.lemmas.Int.{ints}
 use Rattle.std.proofs.lemmas.Bool.{cases_lt, cases_Bool}
-use Rattle.level_range.specs.Signal.{below}
+use Rattle.level_range.specs.Signal.{negative_level}
 use Rattle.level_range.proofs.Better.{lower, upper}
 use Rattle.net_settle.specs.declared.side.Side.{Side}
 use Rattle.net_settle.specs.declared.side.Side.TheVariants.{Lower, Upper}
@@ -62,7 +62,7 @@ better-right_most side x y = subst (λ (v : ℤ). rank side y ≤ rank side v) (
 
 -- one of the levels of a charge
 abbrev pub IsSign : ℕ → ℤ → Type 0
-IsSign c v = (v ≡ below c) ⊎ (v ≡ pos c)
+IsSign c v = (v ≡ negative_level c) ⊎ (v ≡ pos c)
 
 sign-rank : (side : Side) (c : ℕ) (k : ℤ) → 0 < c → IsSign c k → 2 * c ≤ rank side k + 1
 sign-rank Lower c k some (inl e) = let f = ap (rank Lower) e in let g = rank-favoured Lower c in omega arith

@@ -3,17 +3,17 @@ use Rattle.std.proofs.Common.{◌≡◌, ◌≢◌, ℕ, true, false, refl, arit
 use Rattle.std.specs.Prelude.{ℤ, pos, ◌≤ℤ◌, int_lt, nat_eq}
 use Rattle.std.proofs.lemmas.Int.{ints}
 use Rattle.std.proofs.lemmas.Bool.{cases_Bool}
-use Rattle.level_range.specs.Signal.{Signal, below}
+use Rattle.level_range.specs.Signal.{Signal, negative_level}
 use Rattle.net_settle.specs.Charges.{charge_bound, charge_left}
 
-pub below-order : (n : ℕ) → below n ≤ℤ pos n
-below-order n = grind (arith, ints)
+pub negative_level-order : (n : ℕ) → negative_level n ≤ℤ pos n
+negative_level-order n = grind (arith, ints)
 
 pub charge_bound-order : (c : ℕ) (x y : ℤ) → x ≤ℤ y → charge_bound c x ≤ℤ charge_bound c y
 charge_bound-order c x y h = elim (cases_Bool (int_lt x (pos 0))) [
   | inl e ↦ elim (cases_Bool (int_lt y (pos 0))) [
     | inl f ↦ rw (e, f) (omega (arith, ints))
-    | inr f ↦ rw (e, f) (below-order c)
+    | inr f ↦ rw (e, f) (negative_level-order c)
   ]
   | inr e ↦ elim (cases_Bool (int_lt y (pos 0))) [
     | inl f ↦ absurd (apart x y h e f)

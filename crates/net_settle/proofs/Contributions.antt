@@ -4,7 +4,7 @@ use Rattle.std.specs.Prelude.{ℤ, pos, negsuc, ◌≤ℤ◌, ◌⊎◌, int_lt,
 use Rattle.std.specs.Int.{int_min, int_max}
 use Rattle.std.proofs.lemmas.Int.{ints, clamps}
 use Rattle.std.proofs.lemmas.Bool.{cases_Bool}
-use Rattle.level_range.specs.Signal.{Signal, undriven, IsSignal, below}
+use Rattle.level_range.specs.Signal.{Signal, undriven, IsSignal, negative_level}
 use Rattle.level_range.specs.declared.range.Kind.{Kind}
 use Rattle.level_range.specs.declared.range.Kind.TheVariants.{Plain, And, Or}
 use Rattle.level_range.specs.Combine.{lower_of, upper_of, joined}
@@ -48,7 +48,7 @@ left-bound Upper c charge s some = ap (λ t. t.hi) (charge_left-some c charge s 
 -- a charge with the levels of the signs that a driven signal has
 wide : Bool → Bool → ℕ → Signal → Signal
 wide low high c charge =
-    let down = cond low (hull_of charge (level (below c))) charge in cond high (hull_of down (level (pos c))) down
+    let down = cond low (hull_of charge (level (negative_level c))) charge in cond high (hull_of down (level (pos c))) down
 
 min_first : (m : ℕ) (x : ℤ) → IsSign (suc m) x → int_min x (negsuc m) ≡ negsuc m
 min_first m x (inl e) = rw e (grind (arith, ints, clamps))
@@ -66,7 +66,7 @@ max_second : (m : ℕ) (x : ℤ) → IsSign (suc m) x → int_max x (pos (suc m)
 max_second m x (inl e) = rw e (grind (arith, ints, clamps))
 max_second m x (inr e) = rw e (grind (arith, ints, clamps))
 
-wide-lower : (low high : Bool) (m : ℕ) (charge : Signal) → IsSign (suc m) charge.lo → (wide low high (suc m) charge).lo ≡ cond low (below (suc m)) charge.lo
+wide-lower : (low high : Bool) (m : ℕ) (charge : Signal) → IsSign (suc m) charge.lo → (wide low high (suc m) charge).lo ≡ cond low (negative_level (suc m)) charge.lo
 unfolding wide
 wide-lower false false m charge is = refl
 wide-lower false true m charge is = min_second m charge.lo is
@@ -248,14 +248,14 @@ contribution-signal (suc m) charge driven level is = elim (cases_Bool (excludes_
     small c (inr (inr (inr e))) = omega arith
 
     by_bounds : (low high : Bool) (m : ℕ) (x y : ℤ) → suc m ≤ 7 → IsSign (suc m) x → IsSign (suc m) y → x ≤ℤ y →
-        IsSignal (record { lo = cond low (below (suc m)) x; hi = cond high (pos (suc m)) y })
+        IsSignal (record { lo = cond low (negative_level (suc m)) x; hi = cond high (pos (suc m)) y })
     by_bounds low high m x y le sx sy order = record {
       low = lows low sx;
       order = orders low high sx sy;
       high = highs high sy;
     }
       where
-        lows : (low : Bool) → IsSign (suc m) x → negsuc 6 ≤ℤ cond low (below (suc m)) x
+        lows : (low : Bool) → IsSign (suc m) x → negsuc 6 ≤ℤ cond low (negative_level (suc m)) x
         lows true sx = omega (arith, ints)
         lows false (inl e) = rw e (omega (arith, ints))
         lows false (inr e) = rw e (omega (arith, ints))
@@ -265,7 +265,7 @@ contribution-signal (suc m) charge driven level is = elim (cases_Bool (excludes_
         highs false (inl e) = rw e (omega (arith, ints))
         highs false (inr e) = rw e (omega (arith, ints))
 
-        orders : (low high : Bool) → IsSign (suc m) x → IsSign (suc m) y → cond low (below (suc m)) x ≤ℤ cond high (pos (suc m)) y
+        orders : (low high : Bool) → IsSign (suc m) x → IsSign (suc m) y → cond low (negative_level (suc m)) x ≤ℤ cond high (pos (suc m)) y
         orders true true sx sy = omega (arith, ints)
         orders true false sx (inl e) = rw e (omega (arith, ints))
         orders true false sx (inr e) = rw e (omega (arith, ints))

@@ -2,7 +2,7 @@
 use Rattle.std.specs.Prelude.{ℕ, Bool, ℤ, pos, int_lt, if◌then◌else◌, List, map, slice_index_or}
 use Rattle.level_range.specs.declared.range.Conduct.{Conduct}
 use Rattle.level_range.specs.declared.range.Conduct.TheVariants.{On, Off, Unknown}
-use Rattle.level_range.specs.Signal.{Signal, below}
+use Rattle.level_range.specs.Signal.{Signal, negative_level}
 use Rattle.level_range.specs.Combine.{better_low, better_high}
 use Rattle.level_range.specs.Reduce.{reduced_level}
 use Rattle.net_settle.specs.declared.shape.Link.{Link}
@@ -38,12 +38,12 @@ is_favoured Upper v = int_lt (pos 0) v
 
 -- the bound of a strength that is better at equal levels, and the other one
 abbrev pub favoured : Side → ℕ → ℤ
-favoured Lower strength = below strength
+favoured Lower strength = negative_level strength
 favoured Upper strength = pos strength
 
 abbrev pub opposed : Side → ℕ → ℤ
 opposed Lower strength = pos strength
-opposed Upper strength = below strength
+opposed Upper strength = negative_level strength
 
 -- what a switch carries of the bound at one end: one that conducts the reduced bound, one that is off nothing, and
 -- an unknown one only a negative lower or a positive upper bound

@@ -4,7 +4,7 @@ use Rattle.std.specs.List.{range_with_len}
 use Rattle.level_range.specs.declared.range.Conduct.{Conduct}
 use Rattle.level_range.specs.declared.range.Kind.{Kind}
 use Rattle.level_range.specs.declared.range.Kind.TheVariants.{Plain}
-use Rattle.level_range.specs.Signal.{Signal, undriven, below}
+use Rattle.level_range.specs.Signal.{Signal, undriven, negative_level}
 use Rattle.level_range.specs.Combine.{joined}
 use Rattle.level_range.specs.Reduce.{hull_of}
 use Rattle.net_settle.specs.declared.shape.Shape.{Shape}
@@ -25,7 +25,7 @@ level v = record { lo = v; hi = v }
 
 -- the charge with the level of strength c and value 0 where the driven signal has a level below 0
 abbrev pub widened_down : ℕ → Signal → Signal → Signal
-widened_down c charge driven = if int_lt driven.lo (pos 0) then hull_of charge (level (below c)) else charge
+widened_down c charge driven = if int_lt driven.lo (pos 0) then hull_of charge (level (negative_level c)) else charge
 
 -- and with that of value 1 where the driven signal has a level above 0
 abbrev pub widened : ℕ → Signal → Signal → Signal
@@ -42,7 +42,7 @@ contribution c charge driven =
 
 -- the side of a charge of strength c by the sign of a bound
 abbrev pub charge_bound : ℕ → ℤ → ℤ
-charge_bound c v = if int_lt v (pos 0) then below c else pos c
+charge_bound c v = if int_lt v (pos 0) then negative_level c else pos c
 
 -- what becomes of a charge of strength c by the signal of its net
 abbrev pub charge_left : ℕ → Signal → Signal → Signal

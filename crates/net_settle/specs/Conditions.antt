@@ -2,7 +2,7 @@
 use Rattle.std.specs.Prelude.{◌≡◌, ◌≢◌, ◌<◌, ◌≤◌, ◌⊎◌, ℕ, pos, List, [], length, All, slice_index_or}
 use Rattle.level_range.specs.declared.range.Conduct.{Conduct}
 use Rattle.level_range.specs.declared.range.Kind.TheVariants.{Plain}
-use Rattle.level_range.specs.Signal.{Signal, below}
+use Rattle.level_range.specs.Signal.{Signal, negative_level}
 use Rattle.net_settle.specs.declared.shape.Link.{Link}
 use Rattle.net_settle.specs.declared.shape.Shape.{Shape}
 use Rattle.net_settle.specs.Settling.{AreSettled}
@@ -19,7 +19,7 @@ IsChargeLevel c = (c ≡ 0) ⊎ (c ≡ 1) ⊎ (c ≡ 2) ⊎ (c ≡ 4)
 -- a charge of strength c has the value 0 or 1, or it isn't known which
 abbrev pub IsCharge : ℕ → Signal → Type 0
 IsCharge c charge =
-    (charge ≡ level (below c)) ⊎ (charge ≡ level (pos c)) ⊎ (charge ≡ record { lo = below c; hi = pos c })
+    (charge ≡ level (negative_level c)) ⊎ (charge ≡ level (pos c)) ⊎ (charge ≡ record { lo = negative_level c; hi = pos c })
 
 -- the charge of each trireg is one of its level
 abbrev pub AreCharges : List ℕ → List Signal → Type 0

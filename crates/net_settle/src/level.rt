@@ -1,5 +1,5 @@
 ghost use Rattle.std.specs.Prelude.{◌≡◌, ◌≤◌, pos, negsuc, ◌≤ℤ◌};
-ghost use Rattle.level_range.specs.Signal.{below};
+ghost use Rattle.level_range.specs.Signal.{negative_level};
 
 use level_range::Range;
 use std::marker::Model;
@@ -44,7 +44,7 @@ impl Level {
     /// The level of value 0 with a strength of at most 7.
     pub fn zero(strength: u8) -> Level
         requires { strength ≤ 7 }
-        ensures { result ≡ below strength }
+        ensures { result ≡ negative_level strength }
     {
         Level {
             value: -(strength as i8),

@@ -9,3 +9,5 @@ pub mod RowLemmas
 pub mod OverlapLemmas
 pub mod BuildLemmas
 pub mod FaultLemmas
+pub mod Known
+pub mod Laws

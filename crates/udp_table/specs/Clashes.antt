@@ -1,5 +1,5 @@
--- Clashes of rows, by the test of two rows.
-use Rattle.std.specs.Prelude.{◌≡◌, ℕ, ◌<◌, false, true, List, length}
+-- For the code and its proofs alone, no reader of the public contracts needs it: clashes of rows, by the test of two rows.
+use Rattle.std.specs.Prelude.{◌≡◌, ℕ, ◌<◌, false, true, List, length, Option, MatchOption}
 use Rattle.udp_table.specs.declared.rows.UdpRow.{UdpRow}
 use Rattle.udp_table.specs.Rows.{row_at}
 use Rattle.udp_table.specs.Tests.{clash_test}
@@ -15,3 +15,7 @@ pub record FirstClash (rows : List UdpRow) (i j : ℕ) : Type 0 where
   pub clash : clash_test (row_at rows i) (row_at rows j) ≡ true
   pub earlier : NoClash rows i
   pub nearer : (k : ℕ) → i < k → k < j → clash_test (row_at rows i) (row_at rows k) ≡ false
+
+-- the answer is the first pair that clashes, or none where no pair does
+abbrev pub IsFirstPair : List UdpRow → Option (ℕ × ℕ) → Type 0
+IsFirstPair rows answer = MatchOption answer (NoClash rows (length rows)) (λ pair. FirstClash rows pair.0 pair.1)

@@ -1,10 +1,10 @@
 -- Why a primitive is refused, in the order of the checks.
-use Rattle.std.specs.Prelude.{◌≢◌, ℕ, ◌<◌, ◌≤◌, Bool, List, length, All}
+use Rattle.std.specs.Prelude.{◌≡◌, ◌≢◌, Result, Err, ℕ, ◌<◌, ◌≤◌, Bool, List, length, All}
 use Rattle.udp_table.specs.declared.rows.UdpRow.{UdpRow}
 use Rattle.udp_table.specs.declared.making.UdpFault.{UdpFault}
 use Rattle.udp_table.specs.declared.making.UdpFault.TheVariants.{TooManyInputs, BadSymbol, TwoEdges, Clash, Memory}
 use Rattle.udp_table.specs.Rows.{IsWellFormed, edge_count, Overlap, row_at}
-use Rattle.udp_table.specs.Primitive.{IsCount, Agrees}
+use Rattle.udp_table.specs.Primitive.{Primitive, IsCount, Agrees}
 
 -- the row at k is the first of which the fact holds
 pub record IsFirstRow (P : UdpRow → Type 0) (rows : List UdpRow) (k : ℕ) : Type 0 where
@@ -41,7 +41,12 @@ IsFault inputs sequential rows (Clash i j) =
 IsFault inputs sequential rows Memory =
     IsCount inputs × All (IsWellFormed inputs sequential) rows × All HasFewEdges rows × Agrees rows
 
--- only memory can be wanting where nothing refuses the parts
+-- a fault for which the parts themselves are refused; want of memory is none
 abbrev pub IsRefusal : UdpFault → Type 0
 IsRefusal Memory = ⊥
 IsRefusal _ = Unit {0}
+
+-- where the parts give cause for a refusal, the answer is that refusal
+abbrev pub IsEachRefusal : ℕ → Bool → List UdpRow → Result Primitive UdpFault → Type 0
+IsEachRefusal inputs sequential rows answer =
+    (f : UdpFault) → IsRefusal f → IsFault inputs sequential rows f → answer ≡ Err f

@@ -6,5 +6,6 @@ pub mod Pairs
 pub mod Primitive
 pub mod Inside
 pub mod LookUp
+pub mod Laws
 pub mod Clashes
 pub mod Faults

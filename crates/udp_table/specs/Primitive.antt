@@ -12,6 +12,10 @@ pub record Primitive : Type 0 where
   pub start : Logic
   pub rows : List UdpRow
 
+-- a primitive of its parts
+abbrev pub primitive : ℕ → Bool → Logic → List UdpRow → Primitive
+primitive inputs sequential start rows = record { inputs = inputs; sequential = sequential; start = start; rows = rows }
+
 -- it has 1 to 10 inputs
 abbrev pub IsCount : ℕ → Type 0
 IsCount inputs = (1 ≤ inputs) × (inputs ≤ 10)

@@ -60,7 +60,7 @@ has_change sym.Change v w = is_change v w
 has_change (sym.Edge a b) v w = base_has a v && base_has b w && is_change v w
 has_change _ _ _ = false
 
--- an input at a look-up: its value before and after; where the two are one it stands at it
+-- an input at a look-up: its value before and after, which are the same where it keeps its value
 pub record Pin : Type 0 where
   pub was : Logic
   pub now : Logic
@@ -73,7 +73,7 @@ same_value X X = true
 same_value Z Z = true
 same_value _ _ = false
 
--- an input that stands is matched by its value, and one that changes by its change
+-- a symbol admits an input that keeps its value by the value, and one that changes by the change
 abbrev pub admits : Sym → Pin → Bool
 admits s p = if same_value p.was p.now then has_value s p.now else has_change s p.was p.now
 

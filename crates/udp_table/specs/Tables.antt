@@ -1,11 +1,12 @@
 -- The symbols as tables: one row for a symbol, one column for a value or a change.
-use Rattle.std.specs.Prelude.{◌≡◌, ℕ, Bool, true, false, List, [], ◌∷◌, Option, Some, slice_get, slice_index_or}
+use Rattle.std.specs.Prelude.{◌≡◌, ℕ, Bool, true, false, ◌&&◌, List, [], ◌∷◌, Option, Some, slice_get, slice_index_or}
+use Rattle.level_range.specs.declared.range.Logic.{Logic}
 use Rattle.level_range.specs.declared.range.Logic.TheVariants.{Zero, One, X}
 use Rattle.udp_table.specs.declared.symbols.Base.{Base}
 use Rattle.udp_table.specs.declared.symbols.Base.TheVariants as base
 use Rattle.udp_table.specs.declared.symbols.Sym.{Sym}
 use Rattle.udp_table.specs.declared.symbols.Sym.TheVariants.{Rise, Fall, Pos, Neg, Change}
-use Rattle.udp_table.specs.Symbols.{base_has, has_change}
+use Rattle.udp_table.specs.Symbols.{base_has, has_change, is_change}
 
 -- the cell of a row and a column, where the table has them
 abbrev pub cell_at : List (List Bool) → ℕ → ℕ → Option Bool
@@ -64,3 +65,8 @@ pub record AreChanges (cells : List (List Bool)) : Type 0 where
   pub pos : HasChanges cells 2 Pos
   pub neg : HasChanges cells 3 Neg
   pub change : HasChanges cells 4 Change
+
+-- the answer is whether the symbol of the row has the change
+abbrev pub HasChangeOfRow : ℕ → Logic → Logic → Bool → Type 0
+HasChangeOfRow row was now answer =
+    (s : Sym) → HasChanges edge_cells row s → answer ≡ (is_change was now && has_change s was now)

@@ -1,4 +1,4 @@
--- Tests on symbols and rows, each proved to decide what its name says.
+-- For the code and its proofs alone, no reader of the public contracts needs it: tests on symbols and rows, each proved to decide what its name says.
 use Rattle.std.specs.Prelude.{ℕ, nat_eq, nat_lt, is_some, Bool, true, false, not, ◌&&◌, ◌||◌, List, length, Option, Some, None}
 use Rattle.std.specs.List.{list_all}
 use Rattle.level_range.specs.declared.range.Logic.{Logic}

@@ -1,10 +1,10 @@
 ghost use Rattle.std.specs.Prelude.{◌≡◌};
 ghost use Rattle.udp_table.specs.Tests.{both_have as both_have_of, share_value as share_value_of, both_contain as both_contain_of, share_change as share_change_of, meet as meet_of, meet_all as meet_all_of, meet_state as meet_state_of, clash_test};
 
-use crate::form::is_value_symbol;
 use crate::rows::UdpRow;
 use crate::symbols::Sym;
 use crate::values::{has_change, has_value};
+use crate::well_formed::is_value_symbol;
 use level_range::Logic;
 
 /// Whether the two symbols have the value.

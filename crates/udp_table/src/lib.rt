@@ -2,7 +2,6 @@
 #![tactic(auto)]
 
 mod clash;
-mod form;
 mod look_up;
 mod making;
 mod matching;
@@ -11,6 +10,7 @@ mod symbols;
 mod tables;
 mod udp;
 mod values;
+mod well_formed;
 
 pub use look_up::{after_changes, level};
 pub use making::{UdpFault, build};

@@ -1,34 +1,31 @@
-ghost use Rattle.std.specs.Prelude.{◌≡◌, ◌≢◌, ◌<◌, ◌+◌, ◌++◌, [], false, true, length, All, IsTrue, List, take, drop, slice_index_or};
-ghost use Rattle.std.specs.List.{Contains};
-ghost use Rattle.level_range.specs.declared.range.Logic.TheVariants.{X, Z};
-ghost use Rattle.udp_table.specs.declared.rows.UdpRow.{UdpRow};
+ghost use Rattle.std.specs.Prelude.{◌≡◌, ◌≢◌, ◌<◌, ◌++◌, [], false, true, length, All};
+ghost use Rattle.level_range.specs.declared.range.Logic.TheVariants.{Z};
 ghost use Rattle.udp_table.specs.Symbols.{same_value};
-ghost use Rattle.udp_table.specs.Rows.{matches};
-ghost use Rattle.udp_table.specs.LookUp.{standing, changing, found, value_or_x as value_or_x_of, output_value as output_value_of, level_value, next_value as next_value_of, state_after, HasSameRows};
+ghost use Rattle.udp_table.specs.LookUp.{level_inputs, edge_inputs, matching_output, value_or_x as value_or_x_of, output_value as output_value_of, level_value, value_at, state_after_input, state_after, IsOutputOfEach, IsLevelInAnyOrder, IsStateInAnyOrder};
 
-use crate::matching::{matches_change, matches_inputs};
+use crate::matching::{matches_change, matches_levels};
 use crate::rows::UdpRow;
 use crate::symbols::Sym;
 use crate::udp::Udp;
 use level_range::Logic;
 
-/// The output of a row without an edge that matches.
-#[tactic(auto, using(crate::proofs::Finding::found_at))]
-fn found_level(rows: &[UdpRow], before: &[Logic], after: &[Logic], state: Logic) -> Option<Sym>
-    ensures { result ≡ found rows.now (standing (before.now ++ after.now)) state }
+/// The output of a level-sensitive row that matches.
+#[tactic(auto, using(crate::proofs::Finding::matching_output_at))]
+fn level_output(rows: &[UdpRow], before: &[Logic], after: &[Logic], state: Logic) -> Option<Sym>
+    ensures { result ≡ matching_output rows.now (level_inputs (before.now ++ after.now)) state }
 {
     for row in rows {
-        if matches_inputs(row, before, after, state) {
+        if matches_levels(row, before, after, state) {
             return Some(row.out);
         }
     }
     None
 }
 
-/// The output of a row with an edge that matches the change of the input between `before` and
+/// The output of an edge-sensitive row that matches the change of the input between `before` and
 /// `after`.
-#[tactic(auto, using(crate::proofs::Finding::found_at))]
-fn found_edge(
+#[tactic(auto, using(crate::proofs::Finding::matching_output_at))]
+fn edge_output(
     rows: &[UdpRow],
     before: &[Logic],
     was: Logic,
@@ -37,7 +34,7 @@ fn found_edge(
     state: Logic,
 ) -> Option<Sym>
     requires { same_value was now ≡ false }
-    ensures { result ≡ found rows.now (changing before.now was now after.now) state }
+    ensures { result ≡ matching_output rows.now (edge_inputs before.now was now after.now) state }
 {
     for row in rows {
         if matches_change(row, before, was, now, after, state) {
@@ -59,7 +56,7 @@ fn output_value(out: Sym, state: Logic) -> Logic
     }
 }
 
-/// The value of what was found, else x.
+/// The value of an output, and x where there is none.
 fn value_or_x(out: Option<Sym>, state: Logic) -> Logic
     ensures { result ≡ value_or_x_of out state }
 {
@@ -76,11 +73,12 @@ pub fn level(udp: &Udp, ins: &[Logic]) -> Logic
     requires width { length ins.now ≡ udp.now.inputs }
     requires known { All (λ v. v ≢ Z) ins.now }
     ensures value { result ≡ level_value udp.now.rows ins.now }
-    ensures any_row { (row : UdpRow) → Contains udp.now.rows row → IsTrue (matches row (standing ins.now) X) → result ≡ output_value_of row.out X }
-    ensures any_order { (rows : List UdpRow) → HasSameRows udp.now.rows rows → result ≡ level_value rows ins.now }
+    ensures any_row { IsOutputOfEach udp.now.rows ins.now result }
+    ensures any_order { IsLevelInAnyOrder udp.now.rows ins.now result }
+    ensures known { result ≢ Z }
 {
     value_or_x(
-        found_level(udp.rows.as_slice(), ins, &[], Logic::X),
+        level_output(udp.rows.as_slice(), ins, &[], Logic::X),
         Logic::X,
     )
 }
@@ -90,13 +88,13 @@ pub fn level(udp: &Udp, ins: &[Logic]) -> Logic
 fn next_value(rows: &[UdpRow], old: &[Logic], new: &[Logic], k: usize, state: Logic) -> Logic
     requires old { k < length old.now }
     requires new { k < length new.now }
-    requires differs { same_value (slice_index_or old.now k X) (slice_index_or new.now k X) ≡ false }
-    ensures { result ≡ next_value_of rows.now (take k new.now) (slice_index_or old.now k X) (slice_index_or new.now k X) (drop (k + 1) old.now) state }
+    requires differs { same_value (value_at old.now k) (value_at new.now k) ≡ false }
+    ensures { result ≡ state_after_input rows.now old.now new.now k state }
 {
     let later = &old[k + 1..];
-    let out = match found_level(rows, &new[..k + 1], later, state) {
+    let out = match level_output(rows, &new[..k + 1], later, state) {
         Some(symbol) => Some(symbol),
-        None => found_edge(rows, &new[..k], old[k], new[k], later, state),
+        None => edge_output(rows, &new[..k], old[k], new[k], later, state),
     };
     value_or_x(out, state)
 }
@@ -104,7 +102,8 @@ fn next_value(rows: &[UdpRow], old: &[Logic], new: &[Logic], k: usize, state: Lo
 /// The state of a sequential primitive after its inputs became `new` (IEEE 1364-2005, 8.3 to 8.6).
 ///
 /// The inputs that differ are applied one after the other in port order. After each, the state is
-/// the output of a row without an edge that matches, else of a row with an edge that does, else x.
+/// the output of a level-sensitive row that matches, else of an edge-sensitive row that does, else x.
+/// In either kind of row the order of the rows doesn't matter.
 pub fn after_changes(udp: &Udp, old: &[Logic], new: &[Logic], state: Logic) -> Logic
     requires sequential { udp.now.sequential ≡ true }
     requires old_width { length old.now ≡ udp.now.inputs }
@@ -113,13 +112,14 @@ pub fn after_changes(udp: &Udp, old: &[Logic], new: &[Logic], state: Logic) -> L
     requires new_known { All (λ v. v ≢ Z) new.now }
     requires state_known { state ≢ Z }
     ensures value { result ≡ state_after udp.now.rows [] old.now new.now state }
-    ensures any_order { (rows : List UdpRow) → HasSameRows udp.now.rows rows → result ≡ state_after rows [] old.now new.now state }
+    ensures any_order { IsStateInAnyOrder udp.now.rows old.now new.now state result }
+    ensures known { result ≢ Z }
 {
-    applied(udp.rows.as_slice(), old, new, state)
+    apply_changes(udp.rows.as_slice(), old, new, state)
 }
 
 /// The state after the inputs that differ, applied one after the other in port order.
-fn applied(rows: &[UdpRow], old: &[Logic], new: &[Logic], state: Logic) -> Logic
+fn apply_changes(rows: &[UdpRow], old: &[Logic], new: &[Logic], state: Logic) -> Logic
     requires { length old.now ≡ length new.now }
     ensures { result ≡ state_after rows.now [] old.now new.now state }
 {

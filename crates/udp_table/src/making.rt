@@ -1,16 +1,15 @@
-ghost use Rattle.std.specs.Prelude.{◌≡◌, ◌≢◌, not, length, IfOk, IfErr, MatchOption, Err, ◌↔◌, IsTrue};
+ghost use Rattle.std.specs.Prelude.{◌≡◌, ◌≢◌, not, IfOk, IfErr, ◌↔◌, IsTrue};
 ghost use Rattle.std.specs.List.{position};
 ghost use Rattle.level_range.specs.declared.range.Logic.TheVariants.{Z};
-ghost use Rattle.udp_table.specs.declared.making.UdpFault.{UdpFault};
-ghost use Rattle.udp_table.specs.Primitive.{IsCount, IsAccepted};
+ghost use Rattle.udp_table.specs.Primitive.{primitive, IsCount, IsAccepted};
 ghost use Rattle.udp_table.specs.Tests.{row_test, edges_test, clash_test};
-ghost use Rattle.udp_table.specs.Clashes.{NoClash, FirstClash};
-ghost use Rattle.udp_table.specs.Faults.{IsFault, IsRefusal};
+ghost use Rattle.udp_table.specs.Clashes.{IsFirstPair};
+ghost use Rattle.udp_table.specs.Faults.{IsFault, IsEachRefusal};
 
 use crate::clash::rows_clash;
-use crate::form::{has_two_edges, is_well_formed};
 use crate::rows::{RowList, UdpRow};
 use crate::udp::Udp;
+use crate::well_formed::{has_two_edges, is_well_formed};
 use level_range::Logic;
 use std::alloc::Global;
 
@@ -53,7 +52,7 @@ fn first_clashing(row: &UdpRow, later: &[UdpRow]) -> Option<usize>
 
 /// The least pair of rows that clash.
 fn first_clash(rows: &[UdpRow]) -> Option<(usize, usize)>
-    ensures { MatchOption result (NoClash rows.now (length rows.now)) (λ pair. FirstClash rows.now pair.0 pair.1) }
+    ensures { IsFirstPair rows.now result }
 {
     for (i, row) in rows.iter().enumerate() {
         if let Some(distance) = first_clashing(row, &rows[i + 1..]) {
@@ -84,10 +83,10 @@ pub fn build(
     rows: &RowList,
 ) -> Result<Udp, UdpFault>
     requires { start ≢ Z }
-    ensures kept { IfOk result (λ u. u ≡ record { inputs = inputs; sequential = sequential; start = start; rows = rows.now }) }
+    ensures kept { IfOk result (λ u. u ≡ primitive inputs sequential start rows.now) }
     ensures accepted { IfOk result (λ u. IsAccepted u) }
     ensures fault { IfErr result (IsFault inputs sequential rows.now) }
-    ensures exactly { (f : UdpFault) → IsRefusal f → IsFault inputs sequential rows.now f → result ≡ Err f }
+    ensures exactly { IsEachRefusal inputs sequential rows.now result }
 {
     if !is_count(inputs) {
         return Err(UdpFault::TooManyInputs);

@@ -3,7 +3,7 @@ ghost use Rattle.udp_table.specs.Symbols.{admits, same_value as same_value_of};
 ghost use Rattle.udp_table.specs.Pairs.{pairwise};
 ghost use Rattle.udp_table.specs.Rows.{admits_all, admits_state as admits_state_of, matches};
 ghost use Rattle.udp_table.specs.Tests.{hold as hold_of};
-ghost use Rattle.udp_table.specs.LookUp.{standing, changing};
+ghost use Rattle.udp_table.specs.LookUp.{level_inputs, edge_inputs};
 
 use crate::rows::UdpRow;
 use crate::symbols::Sym;
@@ -26,9 +26,9 @@ fn hold(symbols: &[Sym], values: &[Logic]) -> bool
     true
 }
 
-/// Whether the symbols admit inputs that all stand.
-fn admit_standing(symbols: &[Sym], before: &[Logic], after: &[Logic]) -> bool
-    ensures { result ≡ admits_all symbols.now (standing (before.now ++ after.now)) }
+/// Whether the symbols admit inputs that all keep their values.
+fn admit_levels(symbols: &[Sym], before: &[Logic], after: &[Logic]) -> bool
+    ensures { result ≡ admits_all symbols.now (level_inputs (before.now ++ after.now)) }
 {
     let n = before.len();
     if symbols.len() < n {
@@ -43,7 +43,7 @@ fn admit_standing(symbols: &[Sym], before: &[Logic], after: &[Logic]) -> bool
 /// Whether the symbols admit inputs of which one changes.
 fn admit_change(symbols: &[Sym], before: &[Logic], was: Logic, now: Logic, after: &[Logic]) -> bool
     requires { same_value_of was now ≡ false }
-    ensures { result ≡ admits_all symbols.now (changing before.now was now after.now) }
+    ensures { result ≡ admits_all symbols.now (edge_inputs before.now was now after.now) }
 {
     let n = before.len();
     if symbols.len() <= n {
@@ -68,15 +68,15 @@ fn admits_state(field: Option<Sym>, state: Logic) -> bool
     }
 }
 
-/// Whether a row without an edge matches the inputs `before` and `after`, and the state.
-pub fn matches_inputs(row: &UdpRow, before: &[Logic], after: &[Logic], state: Logic) -> bool
-    ensures { result ≡ matches row.now (standing (before.now ++ after.now)) state }
+/// Whether a row matches the inputs `before` and `after`, all of which keep their values, and the
+/// state.
+pub fn matches_levels(row: &UdpRow, before: &[Logic], after: &[Logic], state: Logic) -> bool
+    ensures { result ≡ matches row.now (level_inputs (before.now ++ after.now)) state }
 {
-    admit_standing(row.ins.as_slice(), before, after) && admits_state(row.state, state)
+    admit_levels(row.ins.as_slice(), before, after) && admits_state(row.state, state)
 }
 
-/// Whether a row with an edge matches the change of the input between `before` and `after`, and
-/// the state.
+/// Whether a row matches the change of the input between `before` and `after`, and the state.
 pub fn matches_change(
     row: &UdpRow,
     before: &[Logic],
@@ -86,7 +86,7 @@ pub fn matches_change(
     state: Logic,
 ) -> bool
     requires { same_value_of was now ≡ false }
-    ensures { result ≡ matches row.now (changing before.now was now after.now) state }
+    ensures { result ≡ matches row.now (edge_inputs before.now was now after.now) state }
 {
     admit_change(row.ins.as_slice(), before, was, now, after) && admits_state(row.state, state)
 }

@@ -177,3 +177,45 @@ fn gives_x_where_no_row_matches(rt: HostRuntime) -> Result<(), Fail> {
     assert_eq!(rt; level(&udp, &[Logic::One, Logic::X]), Logic::X);
     Ok(())
 }
+
+const VALUES: [Sym; 3] = [Sym::Zero, Sym::One, Sym::X];
+
+/// The nine rows of two values, each with the first of them for its output, over and over: `count`
+/// rows in all.
+fn rows_of_values(alloc: Global, count: usize) -> Result<RowList, AllocError> {
+    let mut rows = Vec::new(alloc);
+    for k in 0..count {
+        let first = VALUES[k % 3];
+        rows.push(row(alloc, first, VALUES[k / 3 % 3], None, first)?)?;
+    }
+    Ok(RowList::from_vec(rows))
+}
+
+fn same_row(a: &UdpRow, b: &UdpRow) -> bool {
+    a.ins.as_slice() == b.ins.as_slice() && a.state == b.state && a.out == b.out
+}
+
+fn same_rows(a: &[UdpRow], b: &[UdpRow]) -> bool {
+    if a.len() != b.len() {
+        return false;
+    }
+    for (k, row) in a.iter().enumerate() {
+        if !same_row(row, &b[k]) {
+            return false;
+        }
+    }
+    true
+}
+
+#[test]
+fn keeps_every_row_of_a_large_table(rt: HostRuntime) -> Result<(), Fail> {
+    let alloc = rt.alloc();
+    let rows = rows_of_values(alloc, 1100)?;
+    let udp = build(alloc, 2, false, Logic::X, &rows).ok();
+    let udp = udp.expect(&rt, "accepted");
+    assert_eq!(rt; udp.rows().as_slice().len(), 1100);
+    assert!(rt; same_rows(udp.rows().as_slice(), rows.as_slice()));
+    let copy = udp.copied(alloc)?;
+    assert!(rt; same_rows(copy.rows().as_slice(), rows.as_slice()));
+    Ok(())
+}

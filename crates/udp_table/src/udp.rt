@@ -1,7 +1,8 @@
-ghost use Rattle.std.specs.Prelude.{◌≡◌};
+ghost use Rattle.std.specs.Prelude.{◌≡◌, IfOk};
 
 use crate::rows::RowList;
 use level_range::Logic;
+use std::alloc::{AllocError, Global};
 use std::marker::Model;
 
 /// A user-defined primitive (IEEE 1364-2005, clause 8), such as `build` accepts.
@@ -56,5 +57,16 @@ impl Udp {
         ensures accepted { IsAccepted self.now }
     {
         &self.rows
+    }
+    /// An equal primitive. The error is want of memory.
+    pub fn copied(&self, alloc: Global) -> Result<Udp, AllocError>
+        ensures { IfOk result (λ copy. copy ≡ self.now) }
+    {
+        Ok(Udp {
+            inputs: self.inputs,
+            sequential: self.sequential,
+            start: self.start,
+            rows: self.rows.copied(alloc)?,
+        })
     }
 }

@@ -1,7 +1,6 @@
-ghost use Rattle.std.specs.Prelude.{◌≡◌, ◌<◌, ◌&&◌};
-ghost use Rattle.udp_table.specs.declared.symbols.Sym.{Sym};
+ghost use Rattle.std.specs.Prelude.{◌≡◌, ◌<◌};
 ghost use Rattle.udp_table.specs.Symbols.{base_has, base_of, has_value as value_in, has_change as change_in, is_change};
-ghost use Rattle.udp_table.specs.Tables.{row_of, edge_cells, HasChanges};
+ghost use Rattle.udp_table.specs.Tables.{row_of, HasChangeOfRow};
 
 use crate::symbols::{Base, Sym};
 use crate::tables::{edge_table, value_table};
@@ -60,7 +59,7 @@ pub fn has_value(symbol: Sym, value: Logic) -> bool
 /// Whether the change is among those of a row of the table of changes.
 fn row_has_change(row: usize, was: Logic, now: Logic) -> bool
     requires { row < 5 }
-    ensures { (s : Sym) → HasChanges edge_cells row s → result ≡ (is_change was now && change_in s was now) }
+    ensures { HasChangeOfRow row was now result }
 {
     let table = edge_table();
     match (was, now) {

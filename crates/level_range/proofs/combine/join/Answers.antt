@@ -1,7 +1,7 @@
 use Rattle.std.proofs.Common.{rules, ◌≡◌, pos, negsuc, arith, subst, to_z, of_z, w8}
 use Rattle.std.proofs.lemmas.Int.{ints}
-use Rattle.level_range.specs.Combine.{joined, JoinsLists}
-use Rattle.level_range.proofs.Combination.{HasSome, lower_of-low, upper_of-high, lower_of-upper_of, two-signals, joined-lists, joined-next}
+use Rattle.level_range.specs.Combine.{joined}
+use Rattle.level_range.proofs.Combination.{HasSome, lower_of-low, upper_of-high, lower_of-upper_of, two-signals}
 use Rattle.level_range.proofs.combine.join.Goals as goal
 
 pub new-requires-clause-low : goal.new-requires-clause-low
@@ -25,16 +25,3 @@ returns-clause-combination c =
     let some_b = subst HasSome c.b.view_is c.b.invariant.1 in
     let e : c.new.result ≡ joined c.args.kind c.args.a c.args.b = search rules in
     rw e (two-signals c.args.kind c.args.a c.args.b some_a some_b)
-
-pub returns-clause-any_order : goal.returns-clause-any_order
-unfolding JoinsLists
-returns-clause-any_order c =
-    let some_a = subst HasSome c.a.view_is c.a.invariant.1 in
-    let some_b = subst HasSome c.b.view_is c.b.invariant.1 in
-    let e : c.new.result ≡ joined c.args.kind c.args.a c.args.b = search rules in
-    λ xs ys zs is_a is_b moved. rw e (joined-lists c.args.kind xs ys zs c.args.a c.args.b some_a some_b is_a is_b moved)
-
-pub returns-clause-next : goal.returns-clause-next
-returns-clause-next c =
-    let e : c.new.result ≡ joined c.args.kind c.args.a c.args.b = search rules in
-    rw e (joined-next c.args.kind c.args.a c.args.b)

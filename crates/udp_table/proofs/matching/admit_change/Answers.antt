@@ -1,17 +1,17 @@
-use Rattle.udp_table.proofs.MatchingLemmas.{changing-short, changing_parts, changing_first, changing_second}
+use Rattle.udp_table.proofs.MatchingLemmas.{edge_inputs-short, edge_inputs_parts, edge_inputs_first, edge_inputs_second}
 use Rattle.udp_table.proofs.matching.admit_change.Goals as goal
 
 pub returns-then-symbols-n : goal.returns-then-symbols-n
-returns-then-symbols-n c = changing-short _ _ _ _ _ c.if-symbols-n.true
+returns-then-symbols-n c = edge_inputs-short _ _ _ _ _ c.if-symbols-n.true
 
 pub returns-then-not-has_change : goal.returns-then-not-has_change
 returns-then-not-has_change c =
-    changing_first _ _ _ _ _ _ c.if-symbols-n.false c.requires _ c.has_change.ensures c.if-not-has_change.true
+    edge_inputs_first _ _ _ _ _ _ c.if-symbols-n.false c.requires _ c.has_change.ensures c.if-not-has_change.true
 
 pub returns-then-not-hold : goal.returns-then-not-hold
 returns-then-not-hold c =
-    changing_second _ _ _ _ _ _ c.if-symbols-n.false c.requires _ c.has_change.ensures _ c.if-not-has_change.false c.hold.ensures c.if-not-hold.true
+    edge_inputs_second _ _ _ _ _ _ c.if-symbols-n.false c.requires _ c.has_change.ensures _ c.if-not-has_change.false c.hold.ensures c.if-not-hold.true
 
 pub returns : goal.returns
 returns c =
-    changing_parts _ _ _ _ _ _ c.if-symbols-n.false c.requires _ c.has_change.ensures _ _ c.if-not-has_change.false c.hold.ensures c.if-not-hold.false c.hold-2.ensures
+    edge_inputs_parts _ _ _ _ _ _ c.if-symbols-n.false c.requires _ c.has_change.ensures _ _ c.if-not-has_change.false c.hold.ensures c.if-not-hold.false c.hold-2.ensures

@@ -1,6 +1,6 @@
 use Rattle.std.proofs.Common.{◌≡◌, [], take, drop}
 use Rattle.udp_table.specs.LookUp.{state_after}
-use Rattle.udp_table.proofs.look_up.applied.Given as goal
+use Rattle.udp_table.proofs.look_up.apply_changes.Given as goal
 
 abbrev pub invariant-loop-k : goal.invariant-loop-k
 invariant-loop-k l =
