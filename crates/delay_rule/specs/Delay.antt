@@ -1,5 +1,5 @@
 -- Which delay a change takes (IEEE 1364-2005, 7.14).
-use Rattle.std.specs.Prelude.{ℕ, List, [], ◌∷◌, min, take}
+use Rattle.std.specs.Prelude.{ℕ, ◌+◌, List, [], ◌∷◌, min, take}
 use Rattle.level_range.specs.declared.range.Logic.{Logic}
 use Rattle.level_range.specs.declared.range.Logic.TheVariants.{Zero, One, X, Z}
 use Rattle.level_range.specs.declared.range.Conduct.{Conduct}
@@ -27,6 +27,10 @@ chosen (rise ∷ fall ∷ off ∷ _) X = min (min rise fall) off
 -- the delay of a change to a value
 abbrev pub delay_of : Delays → Logic → ℕ
 delay_of delays to = chosen (given delays) to
+
+-- the tick at which a change to a value takes effect that begins at this one
+abbrev pub due : ℕ → Delays → Logic → ℕ
+due now delays to = now + delay_of delays to
 
 -- the value by which a switch chooses its delay: it turns on by the delay to 1, off by that to 0, to unknown by that to x
 abbrev pub switch_value : Conduct → Logic

@@ -1,6 +1,6 @@
-ghost use Rattle.std.specs.Prelude.{◌≡◌, ◌+◌, ◌≤◌, ◌^◌, ◌↔◌, IsNone};
+ghost use Rattle.std.specs.Prelude.{◌≡◌, ◌≤◌, ◌^◌, ◌↔◌, IsNone};
 ghost use Rattle.level_range.specs.Signal.{reads};
-ghost use Rattle.delay_rule.specs.Delay.{delay_of, switch_value as switch_value_of};
+ghost use Rattle.delay_rule.specs.Delay.{due, switch_value as switch_value_of};
 ghost use Rattle.delay_rule.specs.Inertia.{IsPending, IsRetarget, is_pending, retargeted, same_signal, same_conduct};
 
 use crate::choice::pick;
@@ -53,8 +53,9 @@ pub fn retarget(
     delays: &Delays,
 ) -> Option<Pending<Range>>
     requires { now ≤ 2 ^ 48 }
-    ensures inertia { IsRetarget present pending target (now + delay_of delays.now (reads target)) result }
-    ensures value { result ≡ retargeted same_signal present pending target (now + delay_of delays.now (reads target)) }
+    ensures inertia { IsRetarget present pending target (due now delays.now (reads target)) result }
+    ensures value { result
+        ≡ retargeted same_signal present pending target (due now delays.now (reads target)) }
     ensures none { IsNone result ↔ ((target ≡ present) × ¬ IsPending pending target) }
 {
     after_target(
@@ -86,8 +87,11 @@ pub fn retarget_switch(
     delays: &Delays,
 ) -> Option<Pending<Conduct>>
     requires { now ≤ 2 ^ 48 }
-    ensures inertia { IsRetarget present pending target (now + delay_of delays.now (switch_value_of target)) result }
-    ensures value { result ≡ retargeted same_conduct present pending target (now + delay_of delays.now (switch_value_of target)) }
+    ensures inertia { IsRetarget present pending target
+        (due now delays.now (switch_value_of target)) result }
+    ensures value { result
+        ≡ retargeted same_conduct present pending target
+        (due now delays.now (switch_value_of target)) }
     ensures none { IsNone result ↔ ((target ≡ present) × ¬ IsPending pending target) }
 {
     after_target(

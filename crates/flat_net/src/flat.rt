@@ -164,8 +164,8 @@ impl Flat {
         text_of(&self.parts.element_names.as_slice()[e as usize])
     }
 
-    /// The net of a name's bit, counted from 0 at the left. None where no name is this one, or it has
-    /// no such bit.
+    /// The net of a name's bit, counted from 0 at the left. None where no name is this one, or it
+    /// has no such bit.
     pub fn bit_of(&self, name: &str, at: u32) -> Option<u32>
         ensures { result ≡ slice_get (nets_found self.now.parts.finds name.now) at }
     {
@@ -186,7 +186,8 @@ impl Flat {
         requires { Fits self.old.parts cell patch }
         ensures patches { self.new ≡ with_patch self.old cell patch }
         ensures cell { patch_of self.new cell ≡ patch }
-        ensures others { (other : Cell) → (other ≡ cell → ⊥) → patch_of self.new other ≡ patch_of self.old other }
+        ensures others { (other : Cell) → (other ≡ cell → ⊥)
+            → patch_of self.new other ≡ patch_of self.old other }
         ensures parts { self.new.parts ≡ self.old.parts }
     {
         match cell {

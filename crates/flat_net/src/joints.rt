@@ -9,7 +9,8 @@ use indexmap::IndexSet;
 use std::alloc::{AllocError, Global};
 
 fn push_pins(pins: &mut Vec<(usize, usize)>, drives: &[Drive]) -> Result<(), AllocError>
-    ensures { OnOk result (pins.new.items ≡ pins.old.items ++ map (λ drive. (drive.element, drive.pin)) drives.now) }
+    ensures { OnOk result
+        (pins.new.items ≡ pins.old.items ++ map (λ drive. (drive.element, drive.pin)) drives.now) }
 {
     for drive in drives {
         pins.push((drive.element as usize, drive.pin as usize))?;
@@ -65,7 +66,8 @@ pub(crate) fn switch_ends(
 }
 
 fn has_drives(pins: &IndexSet<(usize, usize)>, element: usize, outs: &[u32]) -> bool
-    ensures { result ≡ all_at (λ pin net. list_any (same_pin (element, pin)) pins.now.keys) outs.now }
+    ensures { result
+        ≡ all_at (λ pin net. list_any (same_pin (element, pin)) pins.now.keys) outs.now }
 {
     outs.iter()
         .enumerate()

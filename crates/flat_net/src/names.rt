@@ -1,4 +1,4 @@
-ghost use Rattle.std.specs.Prelude.{◌≡◌, false, true, map, IfOk, MatchOption};
+ghost use Rattle.std.specs.Prelude.{◌≡◌, map, is_some, IfOk, IfSome};
 ghost use Rattle.std.specs.List.{list_all};
 ghost use Rattle.name_table.specs.Names.{is_distinct};
 ghost use Rattle.flat_net.specs.Tests.{are_names as are_names_of, is_ascii as is_ascii_of};
@@ -40,8 +40,8 @@ pub(crate) fn table_of<N: Named>(
     alloc: Global,
     named: &[N],
 ) -> Result<Option<NameTable>, AllocError>
-    ensures distinct { IfOk result (λ o. MatchOption o (is_distinct (map N.name named.now) ≡ false) (λ _. is_distinct (map N.name named.now) ≡ true)) }
-    ensures names { IfOk result (λ o. MatchOption o (is_distinct (map N.name named.now) ≡ false) (λ table. table ≡ map N.name named.now)) }
+    ensures distinct { IfOk result (λ o. is_some o ≡ is_distinct (map N.name named.now)) }
+    ensures names { IfOk result (λ o. IfSome o (λ table. table ≡ map N.name named.now)) }
 {
     let mut table = NameTable::new(alloc);
     for item in named {

@@ -132,7 +132,8 @@ fn are_links(elements: &[Element], nets: &[u32], links: &[u32], shape: &[Link]) 
 
 /// Whether the links fit the elements place by place, as far as both lists go.
 fn match_links(elements: &[Element], nets: &[u32], links: &[u32], shape: &[Link]) -> bool
-    ensures { result ≡ list_all (λ p. is_link_of elements.now nets.now p.0 p.1) (zip links.now shape.now) }
+    ensures { result
+        ≡ list_all (λ p. is_link_of elements.now nets.now p.0 p.1) (zip links.now shape.now) }
 {
     links
         .iter()

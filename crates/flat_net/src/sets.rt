@@ -1,4 +1,4 @@
-ghost use Rattle.std.specs.Prelude.{◌≡◌, [], true, false, IfOk, MatchOption};
+ghost use Rattle.std.specs.Prelude.{◌≡◌, [], is_some, IfOk, IfSome};
 ghost use Rattle.flat_net.specs.Tests.{are_new};
 
 use indexmap::IndexSet;
@@ -10,8 +10,8 @@ pub(crate) fn distinct_set<T: Eq + Hash + Copy + Drop>(
     alloc: Global,
     elements: &[T],
 ) -> Result<Option<IndexSet<T>>, AllocError>
-    ensures none { IfOk result (λ o. MatchOption o (are_new T.eq [] elements.now ≡ false) (λ _. are_new T.eq [] elements.now ≡ true)) }
-    ensures keys { IfOk result (λ o. MatchOption o (are_new T.eq [] elements.now ≡ false) (λ set. set.keys ≡ elements.now)) }
+    ensures distinct { IfOk result (λ o. is_some o ≡ are_new T.eq [] elements.now) }
+    ensures keys { IfOk result (λ o. IfSome o (λ set. set.keys ≡ elements.now)) }
 {
     let mut set = IndexSet::new(alloc);
     for element in elements {

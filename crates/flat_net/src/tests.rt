@@ -1,7 +1,9 @@
+mod buffers;
 mod flaws;
 mod sample;
 
 use crate::{Cell, Drive, Element, ElementKind, Find, Flat, Island, NetPart, Parts, Patch, sound};
+use buffers::many_buffers;
 use byte_lists::{Bytes, NameList, NetList};
 use delay_rule::Delays;
 use flaws::{Change, flaws};
@@ -293,5 +295,65 @@ fn a_patch_is_that_of_its_cell_alone(rt: HostRuntime) -> Result<(), Fail> {
     open_first(&rt, &mut flat);
     has_patch(&rt, &flat, 0, Patch::Open);
     has_patch(&rt, &flat, 1, Patch::Whole);
+    Ok(())
+}
+
+fn copy_of(flat: &Flat, alloc: Global) -> Result<Parts, AllocError> {
+    flat.parts(alloc)
+}
+
+/// How long the lists of the parts are, in the order of the fields.
+fn lengths(parts: &Parts) -> [usize; 9] {
+    [
+        parts.nets.as_slice().len(),
+        parts.elements.as_slice().len(),
+        parts.islands.as_slice().len(),
+        parts.udps.as_slice().len(),
+        parts.net_names.as_slice().len(),
+        parts.element_names.as_slice().len(),
+        parts.finds.as_slice().len(),
+        parts.inputs.as_slice().len(),
+        parts.outputs.as_slice().len(),
+    ]
+}
+
+#[test]
+fn a_copy_has_all_parts(rt: HostRuntime) -> Result<(), Fail> {
+    let flat = flat(&rt, rt.alloc())?;
+    let parts = copy_of(&flat, rt.alloc())?;
+    assert_eq!(rt; lengths(&parts), [8, 6, 6, 1, 8, 6, 7, 1, 3]);
+    assert!(rt; sound(rt.alloc(), &parts)?);
+    Ok(())
+}
+
+/// Each net is driven by the element of its number, and found by its name.
+fn are_buffers(rt: &impl Abort, parts: &Parts) {
+    for (number, element) in parts.elements.as_slice().iter().enumerate() {
+        assert_eq!(rt; element.outs.as_slice(), [number as u32].as_slice());
+    }
+    for (number, found) in parts.finds.as_slice().iter().enumerate() {
+        assert_eq!(rt; found.nets.as_slice(), [number as u32].as_slice());
+    }
+}
+
+/// The netlist of many nets.
+fn flat_of_buffers(rt: &impl Abort, alloc: Global, count: u32) -> Result<Flat, Fail> {
+    let parts = many_buffers(alloc, count)?;
+    assert!(rt; sound(alloc, &parts)?);
+    Ok(Flat::new(alloc, parts)?)
+}
+
+#[test]
+fn thousands_of_nets_are_kept_whole(rt: HostRuntime) -> Result<(), Fail> {
+    let flat = flat_of_buffers(&rt, rt.alloc(), 5_000)?;
+    finds_bit(&rt, &flat, "n4999", 0, Some(4_999));
+    finds_element(&rt, &flat, "n4998", Some(4_998));
+    finds_element(&rt, &flat, "n5000", None);
+    let parts = copy_of(&flat, rt.alloc())?;
+    assert_eq!(rt;
+        lengths(&parts),
+        [5_000, 5_000, 5_000, 0, 5_000, 5_000, 5_000, 1, 1]
+    );
+    are_buffers(&rt, &parts);
     Ok(())
 }

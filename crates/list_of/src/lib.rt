@@ -4,3 +4,6 @@
 mod lists;
 
 pub use lists::ListOf;
+
+#[cfg(test)]
+mod tests;

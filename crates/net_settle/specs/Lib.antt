@@ -4,3 +4,4 @@ pub mod ByLevels
 pub mod Charges
 pub mod Conditions
 pub mod Progress
+pub mod OneSide

@@ -53,8 +53,8 @@ fn widened(strength: u8, charge: Range, driven: Range) -> Range
     }
 }
 
-/// What the charge of a net contributes to its signal: nothing at strength 0, which is none, or where the driven signal
-/// excludes 0.
+/// What the charge of a net contributes to its signal: nothing at strength 0, which is none, or where
+/// the driven signal excludes 0.
 pub fn contribution(strength: u8, charge: Range, driven: Range) -> Range
     requires { strength ≤ 7 }
     ensures { result ≡ contribution_of strength charge driven }

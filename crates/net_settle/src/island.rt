@@ -1,8 +1,9 @@
-ghost use Rattle.std.specs.Prelude.{◌≡◌, ◌≤◌, ◌≤ℤ◌, ℕ, length, zip, [], All};
+ghost use Rattle.std.specs.Prelude.{◌≡◌, ◌≤◌, ◌≤ℤ◌, ℕ, length, [], All};
 ghost use Rattle.level_range.specs.Signal.{IsSignal};
-ghost use Rattle.net_settle.specs.Bounds.{at, bounds_of};
-ghost use Rattle.net_settle.specs.Settling.{IsSettled, AreSettled};
-ghost use Rattle.net_settle.specs.ByLevels.{settled_bounds, signals_between, settled};
+ghost use Rattle.net_settle.specs.Bounds.{at};
+ghost use Rattle.net_settle.specs.Settling.{AreSettled};
+ghost use Rattle.net_settle.specs.ByLevels.{signals_between};
+ghost use Rattle.net_settle.specs.OneSide.{bounds_on, AreBoundsOn};
 ghost use Rattle.net_settle.specs.Charges.{charged_signals, chosen_signals, charges_left, switches_of, driven_signals, island_signals};
 ghost use Rattle.net_settle.specs.Conditions.{EndsWithin, IsChargeLevel, AreCharges, OthersStay, AreCharged, CanSettle, IsIsland};
 
@@ -26,10 +27,10 @@ fn settle_both(
     requires upper { length own.now ≡ length upper.old }
     requires conduction { length on.now ≡ length links.now }
     requires ends { EndsWithin (length own.now) links.now }
-    ensures lower { lower.new ≡ settled_bounds Side.Lower (zip links.now on.now) (bounds_of Side.Lower own.now) }
-    ensures upper { upper.new ≡ settled_bounds Side.Upper (zip links.now on.now) (bounds_of Side.Upper own.now) }
-    ensures settled_lower { IsSettled Side.Lower (zip links.now on.now) (bounds_of Side.Lower own.now) lower.new }
-    ensures settled_upper { IsSettled Side.Upper (zip links.now on.now) (bounds_of Side.Upper own.now) upper.new }
+    ensures lower { lower.new ≡ bounds_on Side.Lower links.now on.now own.now }
+    ensures upper { upper.new ≡ bounds_on Side.Upper links.now on.now own.now }
+    ensures settled_lower { AreBoundsOn Side.Lower links.now on.now own.now lower.new }
+    ensures settled_upper { AreBoundsOn Side.Upper links.now on.now own.now upper.new }
     ensures in_order { (n : ℕ) → at lower.new n ≤ℤ at upper.new n }
     ensures own { All IsSignal own.now }
 {
@@ -78,7 +79,8 @@ fn choose(out: &mut [Range], driven: &[Range], lower: &[Level], upper: &[Level])
     requires lower { length lower.now ≡ length out.old }
     requires upper { length upper.now ≡ length out.old }
     requires in_order { (n : ℕ) → at lower.now n ≤ℤ at upper.now n }
-    ensures { out.new ≡ chosen_signals driven.now (signals_between lower.now upper.now (length out.old)) }
+    ensures { out.new
+        ≡ chosen_signals driven.now (signals_between lower.now upper.now (length out.old)) }
 {
     for net in 0..out.len() {
         out[net] = if excludes_zero(driven[net]) {
@@ -140,7 +142,8 @@ fn settle_lists(
     keep_charges(charges, levels, out);
 }
 
-/// Settles an island of one net without links, whose lists have one place. Such a net has its own signal.
+/// Settles an island of one net without links, whose lists have one place. Such a net has its own
+/// signal.
 fn settle_alone(
     shape: &Shape,
     own: &[Range],
@@ -177,10 +180,11 @@ fn settle_alone(
 
 /// Settles an island.
 ///
-/// `own` has the own signals of the nets, those that their drivers and inputs give, and `on` says what each link does.
-/// `driven` gets the signals without charges, and `out` those with them: of a net whose driven signal excludes 0 the
-/// driven one, of any other the one that settles with the charges joined to the own signals. `charges` are those
-/// before, and get what becomes of them. No memory is taken.
+/// `own` has the own signals of the nets, those that their drivers and inputs give, and `on` says
+/// what each link does. `driven` gets the signals without charges, and `out` those with them: of a
+/// net whose driven signal excludes 0 the driven one, of any other the one that settles with the
+/// charges joined to the own signals. `charges` are those before, and get what becomes of them. No
+/// memory is taken.
 pub fn settle(
     shape: &Shape,
     own: &[Range],

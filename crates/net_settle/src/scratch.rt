@@ -4,7 +4,8 @@ use crate::level::Level;
 use std::alloc::{AllocError, Global};
 use std::marker::Model;
 
-/// Memory for the bounds of the nets of an island. Contracts see the number of nets for which there is room.
+/// Memory for the bounds of the nets of an island. Contracts see the number of nets for which there is
+/// room.
 #[derive(Debug, Drop)]
 pub struct Scratch {
     pub(crate) lower: Vec<Level>,

@@ -1,8 +1,8 @@
 ghost use Rattle.std.specs.Prelude.{◌≡◌, ◌≢◌, ◌<◌, ◌≤◌, ◌-◌, ℕ, suc, pos, length, zip, All, List, ℤ, Contains, MatchBool};
 ghost use Rattle.level_range.specs.Signal.{IsSignal};
 ghost use Rattle.net_settle.specs.Bounds.{Switch, at, bounds_of, carried as carried_of};
-ghost use Rattle.net_settle.specs.Settling.{IsSettled};
-ghost use Rattle.net_settle.specs.ByLevels.{taken, settled_bounds};
+ghost use Rattle.net_settle.specs.ByLevels.{taken};
+ghost use Rattle.net_settle.specs.OneSide.{bounds_on, AreBoundsOn};
 ghost use Rattle.net_settle.specs.Conditions.{EndsWithin};
 ghost use Rattle.net_settle.specs.Progress.{rank, IsDone, OwnRests, LinkRests, LinksRest, Spreads, Moves};
 
@@ -11,7 +11,8 @@ use crate::shape::Link;
 use crate::side::{Side, bound, carried, favoured, opposed};
 use level_range::{Conduct, Range};
 
-/// Gives the level to a net that has no bound yet, where it is what comes to the net. Answers whether it was given.
+/// Gives the level to a net that has no bound yet, where it is what comes to the net. Answers whether
+/// it was given.
 fn take(bounds: &mut [Level], net: usize, comes: Level, level: Level) -> bool
     requires { net < length bounds.old }
     ensures bounds { bounds.new ≡ taken level net comes bounds.old }
@@ -43,7 +44,8 @@ fn take_own(bounds: &mut [Level], own: &[Range], level: Level, side: Side)
     }
 }
 
-/// Gives the level to the nets at the ends of a link, where the link carries it. Answers whether one took it.
+/// Gives the level to the nets at the ends of a link, where the link carries it. Answers whether one
+/// took it.
 fn take_carried(
     bounds: &mut [Level],
     link: Link,
@@ -56,7 +58,8 @@ fn take_carried(
     requires some { level ≢ pos 0 }
     ensures spreads { (switches : List Switch) → Contains switches (link, conduct)
         → Spreads side switches level bounds.old bounds.new }
-    ensures moves { Moves result (LinkRests side link conduct bounds.old level) bounds.old bounds.new }
+    ensures moves { Moves result
+        (LinkRests side link conduct bounds.old level) bounds.old bounds.new }
 {
     let a = link.a as usize;
     let b = link.b as usize;
@@ -67,8 +70,8 @@ fn take_carried(
     there || back
 }
 
-/// Goes once over the links, from the first to the last or back, and gives the level to the nets to which one carries
-/// it. Answers whether a net took it.
+/// Goes once over the links, from the first to the last or back, and gives the level to the nets to
+/// which one carries it. Answers whether a net took it.
 fn walk(
     bounds: &mut [Level],
     links: &[Link],
@@ -147,8 +150,8 @@ pub fn settle_bounds(
     requires nets { length own.now ≡ length bounds.old }
     requires conduction { length on.now ≡ length links.now }
     requires ends { EndsWithin (length bounds.old) links.now }
-    ensures settled { IsSettled side (zip links.now on.now) (bounds_of side own.now) bounds.new }
-    ensures value { bounds.new ≡ settled_bounds side (zip links.now on.now) (bounds_of side own.now) }
+    ensures settled { AreBoundsOn side links.now on.now own.now bounds.new }
+    ensures value { bounds.new ≡ bounds_on side links.now on.now own.now }
     ensures signals { All IsSignal own.now }
 {
     clear(bounds, own);

@@ -245,7 +245,7 @@ fn a_shape_may_be_shared(rt: HostRuntime) -> Result<(), Fail> {
     Ok(())
 }
 
-/// What an island of three plain nets settles to.
+/// What an island of at most 10,000 plain nets settles to.
 fn driven_by(
     rt: &impl Abort,
     alloc: Global,
@@ -253,25 +253,26 @@ fn driven_by(
     on: &[Conduct],
     own: &[Range],
 ) -> Result<Vec<Range>, AllocError> {
+    let nets = own.len();
     let shape = Shape {
-        kinds: KindList::from_vec(vec![in alloc; Kind::Plain; 3]?),
-        charge: LevelList::from_vec(vec![in alloc; 0; 3]?),
+        kinds: KindList::from_vec(vec![in alloc; Kind::Plain; nets]?),
+        charge: LevelList::from_vec(vec![in alloc; 0; nets]?),
         links: LinkList::from_vec(links.to_vec(alloc)?),
     };
-    let mut charges = ranges(rt, alloc, &[(0, 0); 3])?;
-    let mut driven = ranges(rt, alloc, &[(0, 0); 3])?;
-    let mut out = ranges(rt, alloc, &[(0, 0); 3])?;
-    assert_eq!(rt; shape.kinds.as_slice().len(), 3);
-    assert_eq!(rt; shape.charge.as_slice().len(), 3);
+    let mut charges = vec![in alloc; Range::new(0, 0); nets]?;
+    let mut driven = vec![in alloc; Range::new(0, 0); nets]?;
+    let mut out = vec![in alloc; Range::new(0, 0); nets]?;
+    assert!(rt; nets <= 10_000);
+    assert_eq!(rt; shape.kinds.as_slice().len(), nets);
+    assert_eq!(rt; shape.charge.as_slice().len(), nets);
     assert_eq!(rt; shape.links.as_slice().len(), on.len());
-    assert_eq!(rt; own.len(), 3);
-    assert_eq!(rt; charges.len(), 3);
-    assert_eq!(rt; driven.len(), 3);
-    assert_eq!(rt; out.len(), 3);
-    assert!(rt; ends_within(shape.links.as_slice(), 3));
+    assert_eq!(rt; charges.len(), nets);
+    assert_eq!(rt; driven.len(), nets);
+    assert_eq!(rt; out.len(), nets);
+    assert!(rt; ends_within(shape.links.as_slice(), nets));
     assert!(rt; are_charge_levels(shape.charge.as_slice()));
     let mut scratch = Scratch::new(alloc);
-    scratch.reserve(3)?;
+    scratch.reserve(nets as u32)?;
     settle(
         &shape,
         own,
@@ -282,6 +283,67 @@ fn driven_by(
         &mut scratch,
     );
     Ok(driven)
+}
+
+/// Switches from each of so many nets to the next, of which the one in the middle is off.
+fn chain(alloc: Global, nets: u32) -> Result<(Vec<Link>, Vec<Conduct>), AllocError> {
+    let mut links = Vec::new(alloc);
+    let mut on = Vec::new(alloc);
+    for net in 1..nets {
+        links.push(Link {
+            a: net - 1,
+            b: net,
+            resistive: false,
+        })?;
+        on.push(if net == nets / 2 {
+            Conduct::Off
+        } else {
+            Conduct::On
+        })?;
+    }
+    Ok((links, on))
+}
+
+/// One signal and then another, each so many times.
+fn two_signals(
+    alloc: Global,
+    first: Range,
+    second: Range,
+    count: u32,
+) -> Result<Vec<Range>, AllocError> {
+    let mut all = vec![in alloc; first; count as usize]?;
+    for _ in 0..count {
+        all.push(second)?;
+    }
+    Ok(all)
+}
+
+/// The signals of nets of which the first and the last alone are driven.
+fn driven_at_ends(
+    alloc: Global,
+    first: Range,
+    last: Range,
+    nets: u32,
+) -> Result<Vec<Range>, AllocError> {
+    let mut all = vec![in alloc; first]?;
+    for _ in 2..nets {
+        all.push(Range::new(0, 0))?;
+    }
+    all.push(last)?;
+    Ok(all)
+}
+
+#[test]
+fn a_long_chain_settles_from_both_ends(rt: HostRuntime) -> Result<(), Fail> {
+    let alloc = rt.alloc();
+    let strong = Range::new(6, 6);
+    let weak = Range::new(-3, -3);
+    let (links, on) = chain(alloc, 6_000)?;
+    let own = driven_at_ends(alloc, strong, weak, 6_000)?;
+    let driven = driven_by(&rt, alloc, &links, &on, &own)?;
+    let settled = two_signals(alloc, strong, weak, 3_000)?;
+    assert_eq!(rt; driven.as_slice(), settled.as_slice());
+    Ok(())
 }
 
 /// The next number below ten of a sequence.

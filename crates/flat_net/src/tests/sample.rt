@@ -1,4 +1,5 @@
-//! A sound netlist: an island of three nets with a trireg, a wand net, a primitive, and a name of two bits.
+//! A sound netlist: an island of three nets with a trireg, a wand net, a primitive, and a name of two
+//! bits.
 use crate::{ElementKind, NetKind};
 use level_range::{Kind, Logic};
 use logic_tables::FoldKind;

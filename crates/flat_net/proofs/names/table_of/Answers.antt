@@ -19,7 +19,4 @@ returns-then-not-branch-clause-distinct g c =
     = ap (λ (xs : List (List ℕ)). is_among (name c.item-item.result) xs) (take-map name i items ∙ sym c.loop-item.invariant.names)
     ∙ ap (λ (n : List ℕ). is_among n c.loop-item.table) (sym c.name_bytes.ensures)
     ∙ true_from_not _ (sym c.in_ok-add.ensures.new ∙ c.if-not-branch.true) in
-    repeated (map name items) i (name c.item-item.result) at among
-
-pub returns-then-not-branch-clause-names : goal.returns-then-not-branch-clause-names
-returns-then-not-branch-clause-names g c = returns-then-not-branch-clause-distinct g c
+    sym (repeated (map name items) i (name c.item-item.result) at among)
