@@ -47,7 +47,7 @@ fn shelf(rt: &impl Abort, alloc: Global, fail: u64) -> Result<MemoryShelf, Fail>
 /// is answered, the faults that are counted and the bytes that are given.
 struct Reading {
     name: &'static str,
-    limit: u64,
+    limit: u32,
     fail: u64,
     fault: Option<TakeFault>,
     faults: u64,
@@ -159,7 +159,7 @@ fn assert_reads(rt: &impl Abort, alloc: Global, row: &Reading) -> Result<(), Fai
         ..
     } = row;
     let mut shelf = shelf(rt, alloc, *fail)?;
-    match read_whole(alloc, &mut shelf, name, *limit) {
+    match read_whole(alloc, &mut shelf, name, u64::from(*limit)) {
         Ok(bytes) => {
             let text = text_of(alloc, name)?;
             assert_eq!(rt; row.fault, None, "{name} {limit} {fail}");
@@ -252,27 +252,52 @@ fn put_file(rt: &(impl Abort + fs::Files), name: &str, bytes: &[u8]) -> Result<(
     Ok(())
 }
 
-/// A real file of several pieces is written and read again, under a name that begins and ends with
-/// a blank and has two within, and then it is no more.
+/// A name in the folder for such files, which begins and ends with a blank and has two within.
+fn name_with_blanks(rt: &HostRuntime, alloc: Global) -> Result<String, Fail> {
+    let folder = env::temp_dir(rt)?;
+    let id = std::process::id(rt.process());
+    let name = format!(in alloc; "{}/ outside  io-{} ", folder.as_str(), id)?;
+    Ok(name)
+}
+
+/// A shelf reads these bytes from the real file.
+fn assert_file_read(
+    rt: &(impl Abort + fs::Files),
+    alloc: Global,
+    name: &str,
+    text: &[u8],
+) -> Result<(), Fail> {
+    let mut shelf = FileShelf::new(rt);
+    let bytes = read_whole(alloc, &mut shelf, name, 30_000)?;
+    assert!(rt; bytes.as_slice() == text);
+    assert_eq!(rt; shelf.given(), 30_000);
+    assert_eq!(rt; shelf.faults(), 0);
+    Ok(())
+}
+
+/// A shelf can't read the real file.
+fn assert_no_file(rt: &(impl Abort + fs::Files), alloc: Global, name: &str) -> Result<(), Fail> {
+    let mut shelf = FileShelf::new(rt);
+    let fault = read_whole(alloc, &mut shelf, name, 30_000).err();
+    assert_eq!(rt; fault, Some(TakeFault::Read));
+    assert_eq!(rt; shelf.faults(), 1);
+    assert!(rt; shelf.blamed() == name);
+    Ok(())
+}
+
+/// A real file of several pieces, whose name has blanks, is written and read again, and then it is
+/// no more.
 #[test]
 fn real_files_and_streams_pass_bytes_on(rt: HostRuntime) -> Result<(), Fail> {
     let alloc = rt.alloc();
-    let folder = env::temp_dir(&rt)?;
-    let id = std::process::id(rt.process());
-    let name = format!(in alloc; "{}/ outside  io-{} ", folder.as_str(), id)?;
+    let name = name_with_blanks(&rt, alloc)?;
     let text = distinct(alloc, 30_000)?;
     put_file(&rt, name.as_str(), text.as_slice())?;
     let whole = fs::read(&rt, name.as_str())?;
     assert!(rt; whole.as_slice() == text.as_slice());
-    let mut shelf = FileShelf::new(&rt);
-    let bytes = read_whole(alloc, &mut shelf, name.as_str(), 30_000)?;
-    assert!(rt; bytes.as_slice() == text.as_slice());
-    assert_eq!(rt; shelf.given(), 30_000);
+    assert_file_read(&rt, alloc, name.as_str(), text.as_slice())?;
     fs::remove_file(&rt, name.as_str())?;
-    let fault = read_whole(alloc, &mut shelf, name.as_str(), 30_000).err();
-    assert_eq!(rt; fault, Some(TakeFault::Read));
-    assert_eq!(rt; shelf.faults(), 1);
-    assert!(rt; shelf.blamed() == name.as_str());
+    assert_no_file(&rt, alloc, name.as_str())?;
     enter(&OpenGate);
     Ok(())
 }
