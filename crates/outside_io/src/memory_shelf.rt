@@ -51,7 +51,7 @@ impl Model for MemoryShelf {
 }
 
 impl MemoryShelf {
-    ghost use Rattle.outside_io.specs.MemoryShelf.{counted, is_failing, with_fault};
+    ghost use Rattle.outside_io.specs.MemoryShelf.{with_call, is_failing, with_fault};
 
     /// A shelf of these files, on the condition that their names are distinct and that the
     /// numbers of the calls that fail rise.
@@ -113,7 +113,7 @@ impl MemoryShelf {
     /// Counts a call, and answers whether it is one that fails.
     fn count_call(&mut self) -> bool
         ensures fails { result ≡ is_failing self.old }
-        ensures counted { self.new ≡ counted self.old }
+        ensures counted { self.new ≡ with_call self.old }
     {
         let fails = self.fails.as_slice().contains(&self.calls);
         self.calls = self.calls.saturating_add(1);
