@@ -1,4 +1,4 @@
 pub mod AnswerLemmas
 pub mod NetlistLaws
+pub mod Refusing
 pub mod RunClauses
-pub mod Stopping

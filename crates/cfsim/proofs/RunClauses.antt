@@ -1,10 +1,11 @@
 -- The clauses of the top call, from what the report says and what its writing did.
-use Rattle.std.proofs.Common.{◌≡◌, ◌≢◌, ℕ, zero, suc, ◌≤◌, Bool, true, false, List, [], ◌∷◌, get_or, take, length, Option, Some, None, refl, sym, ap, ◌∙◌, subst, arith, inl, inr, ◌⊎◌}
+use Rattle.std.proofs.Common.{◌≡◌, ◌≢◌, ℕ, ◌≤◌, Bool, true, false, List, [], ◌∷◌, get_or, length, Option, Some, None, refl, sym, ap, ◌∙◌, subst, arith, inl, inr, ◌⊎◌}
+use Rattle.std.proofs.Math.Seq.{take-nil}
 use Rattle.std.specs.Prelude.{IfSome, IsOk, is_some, ◌&&◌, if◌then◌else◌}
 use Rattle.outside_io.specs.Outside.{Gains, GainsPrefix}
 use Rattle.cfsim.specs.Words.{Call, names_file, call_of}
 use Rattle.cfsim.specs.Messages.{usage_line, cannot_read_line}
-use Rattle.cfsim.specs.Answer.{Answer, answer, with_netlist, netlist_in}
+use Rattle.cfsim.specs.Answer.{Answer, answer, with_netlist, netlist_of_file}
 use Rattle.cfsim.specs.Clauses.{IsAnswered, IsNamedBy, IsNextFile, GainsMessage}
 
 pub if_some : {T : Type 0} (o : Option T) (P : T → Type 0) → ((x : T) → P x) → IfSome o P
@@ -21,7 +22,7 @@ pub answer_no_call : (texts : List (List ℕ)) (files : List ℕ → Option (Lis
 unfolding answer
 answer_no_call texts files none = rw none refl
 
-pub answer_call : (texts : List (List ℕ)) (files : List ℕ → Option (List ℕ)) (call : Call) → call_of texts ≡ Some call → answer texts files ≡ with_netlist files call (netlist_in (files call.netlist))
+pub answer_call : (texts : List (List ℕ)) (files : List ℕ → Option (List ℕ)) (call : Call) → call_of texts ≡ Some call → answer texts files ≡ with_netlist files call (netlist_of_file (files call.netlist))
 unfolding answer
 answer_call texts files call is = rw is refl
 
@@ -78,12 +79,8 @@ not_both p q (inr x) = q x
 
 -- ---- texts
 
-take_nothing : (n : ℕ) → take n (let nothing : List ℕ = [] in nothing) ≡ []
-take_nothing zero = refl
-take_nothing (suc n) = refl
-
 pub prefix_of_nothing : (old new : Option (List ℕ)) (text : List ℕ) → GainsPrefix old new [] → GainsPrefix old new text
-prefix_of_nothing old new text w = (0, subst (λ (t : List ℕ). Gains old new t) (take_nothing w.0) w.1)
+prefix_of_nothing old new text w = (0, subst (λ (t : List ℕ). Gains old new t) (take-nil w.0) w.1)
 
 -- ---- the clauses, where the report r is written for texts and told files
 
@@ -165,11 +162,11 @@ pub unread_named : (texts : List (List ℕ)) (call : Call) (blamed : List ℕ) (
 unread_named texts call blamed P is (inl e) = (call, is, inl e)
 unread_named texts call blamed P is (inr w) = (call, is, inr w.0)
 
-pub unread_next : (told : Option Files) (texts : List (List ℕ)) (call : Call) (blamed : List ℕ) → call_of texts ≡ Some call → (blamed ≡ call.netlist) ⊎ ((blamed ≡ call.vectors) × IfSome told (λ files. IsOk (netlist_in (files call.netlist))))
+pub unread_next : (told : Option Files) (texts : List (List ℕ)) (call : Call) (blamed : List ℕ) → call_of texts ≡ Some call → (blamed ≡ call.netlist) ⊎ ((blamed ≡ call.vectors) × IfSome told (λ files. IsOk (netlist_of_file (files call.netlist))))
     → IfSome told (λ files. IsNextFile texts files blamed)
 unread_next told texts call blamed is (inl e) = if_some told (λ files. IsNextFile texts files blamed) (λ files. (call, is, inl e))
 unread_next told texts call blamed is (inr w) =
-    if_some_map told (λ files. IsOk (netlist_in (files call.netlist))) (λ files. IsNextFile texts files blamed) (λ files ok. (call, is, inr (w.0, ok))) w.1
+    if_some_map told (λ files. IsOk (netlist_of_file (files call.netlist))) (λ files. IsNextFile texts files blamed) (λ files ok. (call, is, inr (w.0, ok))) w.1
 
 pub reported_cases : (s : ℕ) → IsReported s → (s ≡ 1) ⊎ (s ≢ 1)
 reported_cases s (inl e) = inl e

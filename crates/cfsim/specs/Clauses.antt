@@ -3,7 +3,7 @@ use Rattle.std.specs.Prelude.{◌≡◌, ℕ, ◌≤◌, List, Option, Some, IsO
 use Rattle.outside_io.specs.Outside.{GainsPrefix}
 use Rattle.cfsim.specs.Words.{Call, call_of}
 use Rattle.cfsim.specs.Messages.{cannot_read_line, no_memory_line}
-use Rattle.cfsim.specs.Answer.{netlist_in}
+use Rattle.cfsim.specs.Answer.{netlist_of_file}
 
 -- the statuses that come with the whole answer: 0 and 2 to 6
 abbrev pub IsAnswered : ℕ → Type 0
@@ -16,7 +16,7 @@ IsNamedBy words name = (call : Call) × (call_of words ≡ Some call) × ((name 
 -- no file before this one in the order of refusals is missing from the shelf or refused: the netlist comes first, and
 -- the vectors where it is accepted
 abbrev pub IsNextFile : List (List ℕ) → (List ℕ → Option (List ℕ)) → List ℕ → Type 0
-IsNextFile words files name = (call : Call) × (call_of words ≡ Some call) × ((name ≡ call.netlist) ⊎ ((name ≡ call.vectors) × IsOk (netlist_in (files call.netlist))))
+IsNextFile words files name = (call : Call) × (call_of words ≡ Some call) × ((name ≡ call.netlist) ⊎ ((name ≡ call.vectors) × IsOk (netlist_of_file (files call.netlist))))
 
 -- the sink gained a first part of the answer's text, of the line for a file that can't be read, or of that for want of
 -- memory

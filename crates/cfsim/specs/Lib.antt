@@ -4,5 +4,4 @@ pub mod Refusals
 pub mod Netlists
 pub mod Answer
 pub mod Clauses
-pub mod Stops
 pub mod Reports

@@ -3,6 +3,8 @@ use Rattle.std.specs.Prelude.{◌≡◌, ℕ, List, slice_get, Option, Some, Non
 use Rattle.std.specs.Option.{ok_or, option_map_or}
 use Rattle.gate_net.specs.declared.netlist.Netlist.{Netlist}
 use Rattle.first_netlist.specs.Form.{netlist_of}
+use Rattle.first_netlist.specs.declared.fault.NetlistFault.{NetlistFault}
+use Rattle.first_netlist.specs.declared.fault.NetlistFault.TheVariants as form
 use Rattle.v_lexer.specs.declared.token.Token.{Token}
 use Rattle.v_lexer.specs.declared.fault.FaultKind.{FaultKind}
 use Rattle.v_lexer.specs.declared.fault.FaultKind.TheVariants as kind
@@ -18,51 +20,59 @@ use Rattle.v_tree.specs.Spelling.{spelling}
 use Rattle.v_tree.specs.Tree.{modules_among, udps_among, directives_among}
 use Rattle.v_tree.specs.Written.{AreWritten, slice_of}
 use Rattle.v_parser.specs.declared.fault.ParseFault.{ParseFault}
-use Rattle.v_parser.specs.declared.fault.ParseFault.TheVariants as refused
+use Rattle.v_parser.specs.declared.fault.ParseFault.TheVariants as parser
 use Rattle.v_parser.specs.Input.{Outcome, is_left_out}
 use Rattle.v_parser.specs.Reading.{descriptions_of}
 use Rattle.cfsim.specs.declared.line_fault.LineFault.{LineFault}
 use Rattle.cfsim.specs.declared.line_fault.LineFault.TheVariants.{BadByte, OpenComment, OpenString, BadNumber, SyntaxError, Unsupported}
-use Rattle.cfsim.specs.Refusals.{Refusal, Faulty, Outside}
+use Rattle.cfsim.specs.declared.refusal.Refusal.{Refusal}
+use Rattle.cfsim.specs.declared.refusal.Refusal.TheVariants.{Faulty, Unbuilt}
+use Rattle.cfsim.specs.declared.refusal.Refusal.TheVariants as refusal
 
--- a lexical fault; want of memory is none that a text has
-abbrev pub lexical : LexFault → Refusal
-lexical (lex.BadByte line) = Faulty BadByte line
-lexical (lex.OpenComment line) = Faulty OpenComment line
-lexical (lex.OpenString line) = Faulty OpenString line
-lexical (lex.BadNumber line) = Faulty BadNumber line
-lexical lex.Memory = Outside
+-- the refusal of a text without tokens
+abbrev pub refusal_of_lexer : LexFault → Refusal
+refusal_of_lexer (lex.BadByte line) = Faulty BadByte line
+refusal_of_lexer (lex.OpenComment line) = Faulty OpenComment line
+refusal_of_lexer (lex.OpenString line) = Faulty OpenString line
+refusal_of_lexer (lex.BadNumber line) = Faulty BadNumber line
+refusal_of_lexer lex.Memory = refusal.Memory
 
 -- the line of a token
 abbrev pub line_of : List Token → ℕ → ℕ
 line_of tokens n = option_map_or (λ (token : Token). token.line) (slice_get tokens n) 0
 
--- a bad token; want of memory is none that tokens have
-abbrev pub grammatical : List Token → ParseFault → Refusal
-grammatical tokens (refused.Syntax n) = Faulty SyntaxError (line_of tokens n)
-grammatical tokens (refused.Unsupported n) = Faulty Unsupported (line_of tokens n)
-grammatical tokens refused.Memory = Outside
+-- the refusal of tokens without a tree
+abbrev pub refusal_of_parser : List Token → ParseFault → Refusal
+refusal_of_parser tokens (parser.Syntax n) = Faulty SyntaxError (line_of tokens n)
+refusal_of_parser tokens (parser.Unsupported n) = Faulty Unsupported (line_of tokens n)
+refusal_of_parser tokens parser.Memory = refusal.Memory
+
+-- the refusal of a tree without a netlist
+abbrev pub refusal_of_tree : NetlistFault → Refusal
+refusal_of_tree form.Memory = refusal.Memory
+refusal_of_tree form.Unbuilt = Unbuilt
 
 -- the netlist that modules, primitives and directives mean, where it is built
-abbrev pub netlist_meant : List Module → List UdpDecl → List Directive → Result Netlist Refusal
-netlist_meant modules udps directives = ok_or (netlist_of modules udps directives) Outside
+abbrev pub netlist_of_tree : List Module → List UdpDecl → List Directive → Result Netlist Refusal
+netlist_of_tree modules udps directives = ok_or (netlist_of modules udps directives) Unbuilt
 
 -- the netlist of the modules, primitives and directives of a text
-abbrev pub netlist_among : List Description → Result Netlist Refusal
-netlist_among ds = netlist_meant (modules_among ds) (udps_among ds) (directives_among ds)
+abbrev pub netlist_of_descriptions : List Description → Result Netlist Refusal
+netlist_of_descriptions ds = netlist_of_tree (modules_among ds) (udps_among ds) (directives_among ds)
 
--- the netlist of what was read of tokens
-abbrev pub netlist_read : {Rest : Type 0} → List Token → Result (List Description × Rest) ParseFault → Result Netlist Refusal
-netlist_read tokens (Ok read) = netlist_among read.0
-netlist_read tokens (Err fault) = Err (grammatical tokens fault)
+-- the netlist of what the parser answers to tokens
+abbrev pub netlist_of_parser : {Rest : Type 0} → List Token → Result (List Description × Rest) ParseFault → Result Netlist Refusal
+netlist_of_parser tokens (Ok tree) = netlist_of_descriptions tree.0
+netlist_of_parser tokens (Err fault) = Err (refusal_of_parser tokens fault)
 
-abbrev pub netlist_lexed : List ℕ → Result (List Token) LexFault → Result Netlist Refusal
-netlist_lexed text (Ok tokens) = netlist_read tokens (descriptions_of text tokens)
-netlist_lexed text (Err fault) = Err (lexical fault)
+-- the netlist of what the lexer answers to a text
+abbrev pub netlist_of_lexer : List ℕ → Result (List Token) LexFault → Result Netlist Refusal
+netlist_of_lexer text (Ok tokens) = netlist_of_parser tokens (descriptions_of text tokens)
+netlist_of_lexer text (Err fault) = Err (refusal_of_lexer fault)
 
 -- the netlist of a text: a lexical fault comes before a bad token, and that before what isn't built
-unfoldable pub netlist_from : List ℕ → Result Netlist Refusal
-netlist_from text = netlist_lexed text (tokens_of text)
+unfoldable pub netlist_of_text : List ℕ → Result Netlist Refusal
+netlist_of_text text = netlist_of_lexer text (tokens_of text)
 
 -- ---- the same, said without reading
 

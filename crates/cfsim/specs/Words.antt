@@ -1,5 +1,10 @@
 -- Which words are a call, and of which files.
-use Rattle.std.specs.Prelude.{ℕ, Bool, true, not, ◌&&◌, List, [], ◌∷◌, Option, None, Some, if◌then◌else◌, ◌==◌}
+use Rattle.std.specs.Prelude.{ℕ, Bool, true, not, ◌&&◌, List, [], ◌∷◌, map, Option, None, Some, if◌then◌else◌, ◌==◌, String, string_bytes}
+use Rattle.std.specs.declared.alloc.Global.{Global}
+
+-- the words, each by its bytes
+abbrev pub texts : List (String Global) → List (List ℕ)
+texts words = map string_bytes words
 
 -- the files that a call names
 pub record Call : Type 0 where

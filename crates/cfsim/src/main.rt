@@ -4,6 +4,7 @@
 mod files;
 mod line_fault;
 mod netlists;
+mod refusal;
 mod report;
 mod respond;
 mod run;

@@ -2,12 +2,12 @@
 
 ghost use Rattle.std.specs.Prelude.{◌≡◌, ◌<◌, ◌≤◌, ◌⊎◌, ◌++◌, [], codes, IfOk};
 ghost use Rattle.gate_net.specs.Sound.{IsSound, IsLawful};
-ghost use Rattle.cfsim.specs.Answer.{ran};
+ghost use Rattle.cfsim.specs.Answer.{answer_of_run};
 ghost use Rattle.cfsim.specs.Messages.{cannot_read_line, limit_line, fault_line, unbuilt_line, oscillates_line};
-ghost use Rattle.cfsim.specs.Reports.{answer_of, Stopped};
+ghost use Rattle.cfsim.specs.Reports.{answer_of, IsAnswerTo};
 
-use crate::files::Stop;
 use crate::line_fault::LineFault;
+use crate::refusal::Refusal;
 use crate::status::Status;
 use byte_lists::Bytes;
 use gate_net::{Netlist, Stimulus};
@@ -36,20 +36,20 @@ fn line(alloc: Global, before: &[u8], name: &[u8], after: &[u8]) -> Result<Bytes
     Ok(Bytes::from_vec(text))
 }
 
-fn cannot_read(alloc: Global, name: &str) -> Result<Bytes, AllocError>
+fn cannot_read_line(alloc: Global, name: &str) -> Result<Bytes, AllocError>
     ensures { IfOk result (λ text. text ≡ cannot_read_line name.now) }
 {
     line(alloc, b"cfsim: cannot read ", name.as_bytes(), b"\n")
 }
 
-fn too_long(alloc: Global, name: &str) -> Result<Bytes, AllocError>
+fn limit_line(alloc: Global, name: &str) -> Result<Bytes, AllocError>
     ensures { IfOk result (λ text. text ≡ limit_line name.now) }
 {
     line(alloc, b"", name.as_bytes(), b": limit file\n")
 }
 
 /// A line about a line of a file.
-fn faulty(alloc: Global, name: &str, number: u64, fault: LineFault) -> Result<Bytes, AllocError>
+fn fault_line(alloc: Global, name: &str, number: u64, fault: LineFault) -> Result<Bytes, AllocError>
     ensures { IfOk result (λ text. text ≡ fault_line name.now number fault) }
 {
     let mut buffer = Buffer::new();
@@ -63,13 +63,13 @@ fn faulty(alloc: Global, name: &str, number: u64, fault: LineFault) -> Result<By
     Ok(Bytes::from_vec(text))
 }
 
-fn unbuilt(alloc: Global, name: &str) -> Result<Bytes, AllocError>
+fn unbuilt_line(alloc: Global, name: &str) -> Result<Bytes, AllocError>
     ensures { IfOk result (λ text. text ≡ unbuilt_line name.now) }
 {
     line(alloc, b"", name.as_bytes(), b": unbuilt\n")
 }
 
-fn oscillates(alloc: Global, tick: u64) -> Result<Bytes, AllocError>
+fn oscillates_line(alloc: Global, tick: u64) -> Result<Bytes, AllocError>
     ensures { IfOk result (λ text. text ≡ oscillates_line tick) }
 {
     let mut buffer = Buffer::new();
@@ -78,7 +78,7 @@ fn oscillates(alloc: Global, tick: u64) -> Result<Bytes, AllocError>
 }
 
 /// A report with no text for the output.
-fn refusal(alloc: Global, status: Status, err: Bytes) -> Report
+fn report_of_err(alloc: Global, status: Status, err: Bytes) -> Report
     ensures status { result.status ≡ status }
     ensures out { result.out ≡ [] }
     ensures err { result.err ≡ err }
@@ -90,43 +90,53 @@ fn refusal(alloc: Global, status: Status, err: Bytes) -> Report
     }
 }
 
-/// The report of a file that stopped the call. One that could be read has the status given.
-pub fn stopped(alloc: Global, stop: Stop, status: u8, name: &str) -> Result<Report, AllocError>
+/// The report of a file's refusal. One that could be read has the status given.
+pub fn report_of_refusal(
+    alloc: Global,
+    refusal: Refusal,
+    status: u8,
+    name: &str,
+) -> Result<Report, AllocError>
     requires { status ≤ 8 }
-    ensures { IfOk result (λ report. Stopped stop status name.now (answer_of report)) }
+    ensures { IfOk result (λ report. IsAnswerTo refusal status name.now (answer_of report)) }
 {
-    match stop {
-        Stop::Memory => Err(AllocError),
-        Stop::Read => {
-            let text = cannot_read(alloc, name)?;
-            Ok(refusal(alloc, Status::new(1), text))
+    match refusal {
+        Refusal::Memory => Err(AllocError),
+        Refusal::Read => {
+            let text = cannot_read_line(alloc, name)?;
+            Ok(report_of_err(alloc, Status::new(1), text))
         }
-        Stop::TooLong => {
-            let text = too_long(alloc, name)?;
-            Ok(refusal(alloc, Status::new(status), text))
+        Refusal::TooLong => {
+            let text = limit_line(alloc, name)?;
+            Ok(report_of_err(alloc, Status::new(status), text))
         }
-        Stop::Faulty(fault, number) => {
-            let text = faulty(alloc, name, number, fault)?;
-            Ok(refusal(alloc, Status::new(status), text))
+        Refusal::Faulty(fault, number) => {
+            let text = fault_line(alloc, name, number, fault)?;
+            Ok(report_of_err(alloc, Status::new(status), text))
         }
-        Stop::Unbuilt => {
-            let text = unbuilt(alloc, name)?;
-            Ok(refusal(alloc, Status::new(status), text))
+        Refusal::Unbuilt => {
+            let text = unbuilt_line(alloc, name)?;
+            Ok(report_of_err(alloc, Status::new(status), text))
         }
     }
 }
 
 /// The report of a run.
-pub fn ran(alloc: Global, netlist: &Netlist, stimulus: &Stimulus) -> Result<Report, AllocError>
+pub fn report_of_run(
+    alloc: Global,
+    netlist: &Netlist,
+    stimulus: &Stimulus,
+) -> Result<Report, AllocError>
     requires sound { IsSound netlist.now }
     requires lawful { IsLawful netlist.now stimulus.now }
-    ensures answer { IfOk result (λ report. answer_of report ≡ ran netlist.now stimulus.now) }
+    ensures answer { IfOk result (λ report. answer_of report
+        ≡ answer_of_run netlist.now stimulus.now) }
     ensures statuses { IfOk result (λ report. (report.status ≡ 0) ⊎ (report.status ≡ 6)) }
 {
     let simulated = simulate(alloc, netlist, stimulus, PASS_LIMIT)?;
     match simulated.oscillated {
         Some(tick) => {
-            let err = oscillates(alloc, tick)?;
+            let err = oscillates_line(alloc, tick)?;
             Ok(Report {
                 status: Status::new(6),
                 out: simulated.trace,

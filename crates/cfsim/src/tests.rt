@@ -26,8 +26,23 @@ const USAGE: &str =
 
 const INVERTER: &str = "module r(a, k); output a; input k; nand (a, k, a); endmodule";
 
-/// The numbers of calls that fail: on the shelf, the output and the errors. 99 is never reached.
-type Fails = (u64, u64, u64);
+/// The numbers of the calls that fail.
+#[derive(Clone, Copy)]
+struct Fails {
+    shelf: u64,
+    out: u64,
+    err: u64,
+}
+
+/// No call has this number.
+const NEVER: u64 = 1_000_000;
+
+/// No call fails.
+const NONE: Fails = Fails {
+    shelf: NEVER,
+    out: NEVER,
+    err: NEVER,
+};
 
 /// What a call of the program left behind.
 #[derive(Drop)]
@@ -38,12 +53,14 @@ struct Outcome {
     shelf_calls: u64,
 }
 
-fn call_list(rt: &impl Abort, alloc: Global, call: u64) -> Result<MemorySink, Fail> {
-    let fails = CallList::from_vec([call].to_vec(alloc)?);
+/// A sink that fails at this call.
+fn sink_of(rt: &impl Abort, alloc: Global, fail: u64) -> Result<MemorySink, Fail> {
+    let fails = CallList::from_vec([fail].to_vec(alloc)?);
     assert!(rt; fails.is_rising());
     Ok(MemorySink::new(alloc, fails))
 }
 
+/// A shelf with the netlist `n.v` and the vectors `v.txt`, which fails at this call.
 fn shelf_of(
     rt: &impl Abort,
     alloc: Global,
@@ -82,9 +99,9 @@ fn call(
     for word in words.split_whitespace() {
         list.push(word.to_string(alloc)?)?;
     }
-    let mut shelf = shelf_of(rt, alloc, netlist, vectors, fails.0)?;
-    let mut out = call_list(rt, alloc, fails.1)?;
-    let mut err = call_list(rt, alloc, fails.2)?;
+    let mut shelf = shelf_of(rt, alloc, netlist, vectors, fails.shelf)?;
+    let mut out = sink_of(rt, alloc, fails.out)?;
+    let mut err = sink_of(rt, alloc, fails.err)?;
     let status = run(
         rt,
         alloc,
@@ -102,131 +119,210 @@ fn call(
     })
 }
 
+/// What a call gets, and how it is answered.
+struct CallRow {
+    words: &'static str,
+    netlist: &'static str,
+    vectors: &'static str,
+    fails: Fails,
+    status: u8,
+    out: &'static str,
+    err: &'static str,
+}
+
+const FAR: &str = "vectors 1\ninputs s r\n0 01\n10 11\n20 10\nend 1099511627776\n";
+
+const RISE: &str = "vectors 1\ninputs k\n0 0\n30 1\nend 40\n";
+
+#[rattlefmt::skip]
+static CALLS: [CallRow; 26] = [
+    CallRow { words: "n.v v.txt", netlist: LATCH, vectors: VECTORS, fails: NONE, status: 0, out: TRACE, err: "" },
+    CallRow { words: "n.v v.txt", netlist: LATCH, vectors: FAR, fails: NONE, status: 0, out: TRACE, err: "" },
+    CallRow {
+        words: "n.v v.txt", netlist: INVERTER, vectors: RISE,
+        fails: NONE,
+        status: 6, out: "0 a St1\n", err: "cfsim: good circuit oscillates at 30\n",
+    },
+    CallRow {
+        words: "n.v v.txt", netlist: "", vectors: VECTORS,
+        fails: NONE,
+        status: 3, out: "", err: "n.v: unbuilt\n",
+    },
+    CallRow {
+        words: "n.v v.txt", netlist: LATCH, vectors: "",
+        fails: NONE,
+        status: 4, out: "", err: "v.txt: unbuilt\n",
+    },
+    CallRow {
+        words: "n.v v.txt", netlist: ESCAPED, vectors: VECTORS,
+        fails: NONE,
+        status: 0, out: ESCAPED_TRACE, err: "",
+    },
+    CallRow {
+        words: "n.v v.txt", netlist: "/*", vectors: "",
+        fails: NONE,
+        status: 3, out: "", err: "n.v:1: open comment\n",
+    },
+    CallRow {
+        words: "n.v x.txt", netlist: "module", vectors: "",
+        fails: NONE,
+        status: 3, out: "", err: "n.v:1: syntax error\n",
+    },
+    CallRow {
+        words: "v.txt n.v", netlist: LATCH, vectors: VECTORS,
+        fails: NONE,
+        status: 3, out: "", err: "v.txt:1: syntax error\n",
+    },
+    CallRow {
+        words: "x.v v.txt", netlist: LATCH, vectors: VECTORS,
+        fails: NONE,
+        status: 1, out: "", err: "cfsim: cannot read x.v\n",
+    },
+    CallRow {
+        words: "n.v x.txt", netlist: LATCH, vectors: VECTORS,
+        fails: NONE,
+        status: 1, out: "", err: "cfsim: cannot read x.txt\n",
+    },
+    CallRow {
+        words: "n.v x.txt", netlist: "", vectors: VECTORS,
+        fails: NONE,
+        status: 3, out: "", err: "n.v: unbuilt\n",
+    },
+    // The first calls on the shelf: an open and two reads of the netlist, then the same of the vectors.
+    CallRow {
+        words: "n.v v.txt", netlist: LATCH, vectors: VECTORS,
+        fails: Fails { shelf: 0, out: NEVER, err: NEVER },
+        status: 1, out: "", err: "cfsim: cannot read n.v\n",
+    },
+    CallRow {
+        words: "n.v v.txt", netlist: LATCH, vectors: VECTORS,
+        fails: Fails { shelf: 1, out: NEVER, err: NEVER },
+        status: 1, out: "", err: "cfsim: cannot read n.v\n",
+    },
+    CallRow {
+        words: "n.v v.txt", netlist: LATCH, vectors: VECTORS,
+        fails: Fails { shelf: 2, out: NEVER, err: NEVER },
+        status: 1, out: "", err: "cfsim: cannot read n.v\n",
+    },
+    CallRow {
+        words: "n.v v.txt", netlist: LATCH, vectors: VECTORS,
+        fails: Fails { shelf: 4, out: NEVER, err: NEVER },
+        status: 1, out: "", err: "cfsim: cannot read v.txt\n",
+    },
+    CallRow {
+        words: "n.v v.txt", netlist: LATCH, vectors: VECTORS,
+        fails: Fails { shelf: NEVER, out: 0, err: NEVER },
+        status: 8, out: "", err: "",
+    },
+    CallRow {
+        words: "n.v v.txt", netlist: LATCH, vectors: VECTORS,
+        fails: Fails { shelf: NEVER, out: NEVER, err: 0 },
+        status: 0, out: TRACE, err: "",
+    },
+    CallRow {
+        words: "n.v v.txt", netlist: INVERTER, vectors: RISE,
+        fails: Fails { shelf: NEVER, out: NEVER, err: 0 },
+        status: 8, out: "0 a St1\n", err: "",
+    },
+    CallRow {
+        words: "n.v v.txt", netlist: "", vectors: VECTORS,
+        fails: Fails { shelf: NEVER, out: NEVER, err: 0 },
+        status: 8, out: "", err: "",
+    },
+    // Words that are no call.
+    CallRow { words: "", netlist: LATCH, vectors: VECTORS, fails: NONE, status: 2, out: "", err: USAGE },
+    CallRow { words: "n.v", netlist: LATCH, vectors: VECTORS, fails: NONE, status: 2, out: "", err: USAGE },
+    CallRow {
+        words: "n.v v.txt f.txt", netlist: LATCH, vectors: VECTORS,
+        fails: NONE,
+        status: 2, out: "", err: USAGE,
+    },
+    CallRow { words: "-n.v v.txt", netlist: LATCH, vectors: VECTORS, fails: NONE, status: 2, out: "", err: USAGE },
+    CallRow { words: "n.v --dict", netlist: LATCH, vectors: VECTORS, fails: NONE, status: 2, out: "", err: USAGE },
+    CallRow {
+        words: "n.v", netlist: LATCH, vectors: VECTORS,
+        fails: Fails { shelf: NEVER, out: NEVER, err: 0 },
+        status: 8, out: "", err: "",
+    },
+];
+
+fn calls() -> &'static [CallRow] {
+    &CALLS
+}
+
+/// With status 2 the shelf isn't asked.
+fn assert_call(
+    rt: &(impl Abort + Threads + Sync),
+    alloc: Global,
+    row: &CallRow,
+) -> Result<(), Fail> {
+    let CallRow { words, status, .. } = row;
+    let outcome = call(rt, alloc, words, row.netlist, row.vectors, row.fails)?;
+    assert_eq!(rt; outcome.status, *status, "{words} {status}");
+    assert_eq!(rt; outcome.out.as_str(), row.out, "{words} {status}");
+    assert_eq!(rt; outcome.err.as_str(), row.err, "{words} {status}");
+    assert!(rt; *status != 2 || outcome.shelf_calls == 0, "{words}");
+    Ok(())
+}
+
 #[test]
 fn calls_have_their_answers(rt: HostRuntime) -> Result<(), Fail> {
-    let far = "vectors 1\ninputs s r\n0 01\n10 11\n20 10\nend 1099511627776\n";
-    let rise = "vectors 1\ninputs k\n0 0\n30 1\nend 40\n";
-    let none: Fails = (99, 99, 99);
-    let rows = [
-        ("n.v v.txt", LATCH, VECTORS, none, 0, TRACE, ""),
-        ("n.v v.txt", LATCH, far, none, 0, TRACE, ""),
-        (
-            "n.v v.txt",
-            INVERTER,
-            rise,
-            none,
-            6,
-            "0 a St1\n",
-            "cfsim: good circuit oscillates at 30\n",
-        ),
-        ("n.v v.txt", "", VECTORS, none, 3, "", "n.v: unbuilt\n"),
-        ("n.v v.txt", LATCH, "", none, 4, "", "v.txt: unbuilt\n"),
-        ("n.v v.txt", ESCAPED, VECTORS, none, 0, ESCAPED_TRACE, ""),
-        ("n.v v.txt", "/*", "", none, 3, "", "n.v:1: open comment\n"),
-        (
-            "n.v x.txt",
-            "module",
-            "",
-            none,
-            3,
-            "",
-            "n.v:1: syntax error\n",
-        ),
-        (
-            "x.v v.txt",
-            LATCH,
-            VECTORS,
-            none,
-            1,
-            "",
-            "cfsim: cannot read x.v\n",
-        ),
-        (
-            "n.v x.txt",
-            LATCH,
-            VECTORS,
-            none,
-            1,
-            "",
-            "cfsim: cannot read x.txt\n",
-        ),
-        ("n.v x.txt", "", VECTORS, none, 3, "", "n.v: unbuilt\n"),
-        // The first calls on the shelf: an open and two reads of the netlist, then the same of the vectors.
-        (
-            "n.v v.txt",
-            LATCH,
-            VECTORS,
-            (0, 99, 99),
-            1,
-            "",
-            "cfsim: cannot read n.v\n",
-        ),
-        (
-            "n.v v.txt",
-            LATCH,
-            VECTORS,
-            (1, 99, 99),
-            1,
-            "",
-            "cfsim: cannot read n.v\n",
-        ),
-        (
-            "n.v v.txt",
-            LATCH,
-            VECTORS,
-            (2, 99, 99),
-            1,
-            "",
-            "cfsim: cannot read n.v\n",
-        ),
-        (
-            "n.v v.txt",
-            LATCH,
-            VECTORS,
-            (4, 99, 99),
-            1,
-            "",
-            "cfsim: cannot read v.txt\n",
-        ),
-        ("n.v v.txt", LATCH, VECTORS, (99, 0, 99), 8, "", ""),
-        ("n.v v.txt", LATCH, VECTORS, (99, 99, 0), 0, TRACE, ""),
-        ("n.v v.txt", INVERTER, rise, (99, 99, 0), 8, "0 a St1\n", ""),
-        ("n.v v.txt", "", VECTORS, (99, 99, 0), 8, "", ""),
-        ("", LATCH, VECTORS, none, 2, "", USAGE),
-        ("n.v", LATCH, VECTORS, none, 2, "", USAGE),
-        ("n.v v.txt f.txt", LATCH, VECTORS, none, 2, "", USAGE),
-        ("-n.v v.txt", LATCH, VECTORS, none, 2, "", USAGE),
-        ("n.v --dict", LATCH, VECTORS, none, 2, "", USAGE),
-        ("n.v", LATCH, VECTORS, (99, 99, 0), 8, "", ""),
-    ];
-    for (words, netlist, vectors, fails, status, out, err) in rows {
-        let outcome = call(&rt, rt.alloc(), words, netlist, vectors, fails)?;
-        assert_eq!(rt; outcome.status, status, "{words} {status}");
-        assert_eq!(rt; outcome.out.as_str(), out, "{words} {status}");
-        assert_eq!(rt; outcome.err.as_str(), err, "{words} {status}");
-        assert!(rt; status != 2 || outcome.shelf_calls == 0, "{words}");
+    for row in calls() {
+        assert_call(&rt, rt.alloc(), row)?;
     }
     Ok(())
 }
 
-/// The vectors are no netlist.
-#[test]
-fn the_first_word_names_the_netlist(rt: HostRuntime) -> Result<(), Fail> {
-    let outcome = call(&rt, rt.alloc(), "v.txt n.v", LATCH, VECTORS, (99, 99, 99))?;
-    assert_eq!(rt; outcome.err.as_str(), "v.txt:1: syntax error\n");
+/// The text behind so many blanks that there are `length` bytes.
+fn behind_blanks(alloc: Global, text: &str, length: usize) -> Result<String, Fail> {
+    let mut bytes = Vec::with_capacity(alloc, length)?;
+    bytes.resize(length.saturating_sub(text.len()), b' ')?;
+    bytes.extend_from_slice(text.as_bytes())?;
+    Ok(String::from_utf8(bytes)?)
+}
+
+/// A file of one byte more than the longest is refused with this status and this line.
+fn assert_too_long(
+    rt: &(impl Abort + Threads + Sync),
+    alloc: Global,
+    netlist: &str,
+    vectors: &str,
+    status: u8,
+    line: &str,
+) -> Result<(), Fail> {
+    let outcome = call(rt, alloc, "n.v v.txt", netlist, vectors, NONE)?;
+    assert_eq!(rt; outcome.err.as_str(), line);
     assert_eq!(rt; outcome.out.as_str(), "");
-    assert_eq!(rt; outcome.status, 3);
+    assert_eq!(rt; outcome.status, status);
     Ok(())
 }
 
-/// Comments and attributes change nothing, and an escaped name is printed with its backslash and its space.
 #[test]
-fn the_latch_with_an_escaped_name(rt: HostRuntime) -> Result<(), Fail> {
-    let outcome = call(&rt, rt.alloc(), "n.v v.txt", ESCAPED, VECTORS, (99, 99, 99))?;
-    assert_eq!(rt; outcome.err.as_str(), "");
-    assert_eq!(rt; outcome.out.as_str(), ESCAPED_TRACE);
-    assert_eq!(rt; outcome.status, 0);
-    Ok(())
+fn netlists_of_a_byte_too_many(rt: HostRuntime) -> Result<(), Fail> {
+    let alloc = rt.alloc();
+    let netlist = behind_blanks(alloc, LATCH, 67_108_865)?;
+    assert_too_long(
+        &rt,
+        alloc,
+        netlist.as_str(),
+        VECTORS,
+        3,
+        "n.v: limit file\n",
+    )
+}
+
+#[test]
+fn vectors_of_a_byte_too_many(rt: HostRuntime) -> Result<(), Fail> {
+    let alloc = rt.alloc();
+    let vectors = behind_blanks(alloc, VECTORS, 16_777_217)?;
+    assert_too_long(
+        &rt,
+        alloc,
+        LATCH,
+        vectors.as_str(),
+        4,
+        "v.txt: limit file\n",
+    )
 }
 
 /// A chain of inverters from `a` to `y`, each a nand.
@@ -255,19 +351,12 @@ fn a_step_has_a_thousand_passes(rt: HostRuntime) -> Result<(), Fail> {
         "n.v v.txt",
         longest.as_str(),
         vectors,
-        (99, 99, 99),
+        NONE,
     )?;
     assert_eq!(rt; outcome.status, 0);
     assert_eq!(rt; outcome.out.as_str(), "0 y St0\n");
     let longer = chain(rt.alloc(), 998)?;
-    let outcome = call(
-        &rt,
-        rt.alloc(),
-        "n.v v.txt",
-        longer.as_str(),
-        vectors,
-        (99, 99, 99),
-    )?;
+    let outcome = call(&rt, rt.alloc(), "n.v v.txt", longer.as_str(), vectors, NONE)?;
     assert_eq!(rt; outcome.status, 6);
     assert_eq!(rt; outcome.out.as_str(), "");
     assert_eq!(rt;
@@ -331,7 +420,7 @@ fn the_adder_adds(rt: HostRuntime) -> Result<(), Fail> {
         "n.v v.txt",
         netlist.as_str(),
         vectors.as_str(),
-        (99, 99, 99),
+        NONE,
     )?;
     assert_eq!(rt; outcome.err.as_str(), "");
     assert_eq!(rt; outcome.out.as_str(), expected.as_str());
@@ -353,7 +442,7 @@ fn real_files_give_the_same(rt: HostRuntime) -> Result<(), Fail> {
     }
     let name = format!(in alloc; "{}/cfsim-{}.out", folder.as_str(), id)?;
     let mut out = StreamSink::new(fs::create(&rt, name.as_str())?);
-    let mut err = call_list(&rt, alloc, 99)?;
+    let mut err = sink_of(&rt, alloc, NEVER)?;
     let mut shelf = FileShelf::new(&rt);
     let status = run(
         &rt,

@@ -1,7 +1,7 @@
 //! The words of a call.
 
-ghost use Rattle.std.specs.Prelude.{◌≡◌, ◌↔◌, map, is_some, string_bytes};
-ghost use Rattle.cfsim.specs.Words.{names_file, call_of};
+ghost use Rattle.std.specs.Prelude.{◌≡◌, ◌↔◌, is_some};
+ghost use Rattle.cfsim.specs.Words.{names_file, call_of, texts};
 
 /// Whether a word names a file: it doesn't begin with a dash.
 pub fn names_file(word: &str) -> bool
@@ -15,7 +15,7 @@ pub fn names_file(word: &str) -> bool
 
 /// Whether the words are a call.
 pub fn is_call(words: &[String]) -> bool
-    ensures { result ≡ is_some (call_of (map string_bytes words.now)) }
+    ensures { result ≡ is_some (call_of (texts words.now)) }
 {
     match words {
         [netlist, vectors] => names_file(netlist.as_str()) && names_file(vectors.as_str()),

@@ -30,8 +30,8 @@ open_left None = []
 open_left (Some file) = file.left
 
 -- after the count of one more call
-abbrev pub counted : ShelfState → ShelfState
-counted s = record s { calls = one_more s.calls }
+abbrev pub with_call : ShelfState → ShelfState
+with_call s = record s { calls = one_more s.calls }
 
 -- whether the next call is one that fails
 abbrev pub is_failing : ShelfState → Bool
@@ -43,7 +43,7 @@ with_fault s name = record s { opened = None; faults = one_more s.faults; blamed
 
 -- after a call that failed, with the name that is blamed
 abbrev pub after_failed : ShelfState → List ℕ → ShelfState
-after_failed s name = with_fault (counted s) name
+after_failed s name = with_fault (with_call s) name
 
 -- whether an `open` of this name is answered Ok: the call isn't listed, and the file is there
 abbrev pub opens : ShelfState → List ℕ → Bool
@@ -51,7 +51,7 @@ opens s name = not (is_failing s) && is_some (file_of s.files name)
 
 -- after an `open` of a file of these bytes
 abbrev pub after_open : ShelfState → List ℕ → List ℕ → ShelfState
-after_open s name bytes = record (counted s) { opened = Some (record { name = name; left = bytes }); given = 0 }
+after_open s name bytes = record (with_call s) { opened = Some (record { name = name; left = bytes }); given = 0 }
 
 -- whether a `read` is answered Ok: no file is open, or the call isn't listed
 abbrev pub reads : ShelfState → Bool
@@ -64,7 +64,7 @@ read_on n (Some file) = Some (record { name = file.name; left = drop n file.left
 
 -- after a `read` of n bytes
 abbrev pub after_read : ShelfState → ℕ → ShelfState
-after_read s n = record (counted s) { opened = read_on n s.opened; given = min (s.given + n) (2 ^ 64 - 1) }
+after_read s n = record (with_call s) { opened = read_on n s.opened; given = min (s.given + n) (2 ^ 64 - 1) }
 
 -- where no file is open nothing is left
 pub open_left-none : (o : Option OpenText) → open_name o ≡ None → open_left o ≡ []

@@ -37,20 +37,36 @@ impl Model for MemoryShelf {
 
     ghost Value = { ShelfState };
 
-    ghost view = { λ s. record { files = s.files; fails = s.fails; calls = s.calls; opened = open_text s.files s.opened; faults = s.faults; blamed = blamed_text s.blamed; given = s.given } };
+    ghost view = { λ s. record {
+      files = s.files;
+      fails = s.fails;
+      calls = s.calls;
+      opened = open_text s.files s.opened;
+      faults = s.faults;
+      blamed = blamed_text s.blamed;
+      given = s.given;
+    } };
 
     ghost invariant = { λ s. IsOpenIn s.files s.opened };
 }
 
 impl MemoryShelf {
-    ghost use Rattle.outside_io.specs.MemoryShelf.{counted, is_failing, with_fault};
+    ghost use Rattle.outside_io.specs.MemoryShelf.{with_call, is_failing, with_fault};
 
     /// A shelf of these files, on the condition that their names are distinct and that the
     /// numbers of the calls that fail rise.
     pub fn new(files: NamedFileList, fails: CallList) -> MemoryShelf
         requires distinct { HaveDistinctNames files }
         requires rising { IsStrictlyIncreasing fails }
-        ensures { result ≡ record { files = files; fails = fails; calls = 0; opened = None; faults = 0; blamed = []; given = 0 } }
+        ensures { result ≡ record {
+          files = files;
+          fails = fails;
+          calls = 0;
+          opened = None;
+          faults = 0;
+          blamed = [];
+          given = 0;
+        } }
     {
         MemoryShelf {
             files,
@@ -97,7 +113,7 @@ impl MemoryShelf {
     /// Counts a call, and answers whether it is one that fails.
     fn count_call(&mut self) -> bool
         ensures fails { result ≡ is_failing self.old }
-        ensures counted { self.new ≡ counted self.old }
+        ensures counted { self.new ≡ with_call self.old }
     {
         let fails = self.fails.as_slice().contains(&self.calls);
         self.calls = self.calls.saturating_add(1);
@@ -136,8 +152,10 @@ impl Shelf for MemoryShelf {
 
     fn open(&mut self, name: String) -> Result<(), Failed>
         ensures exactly { is_ok result ≡ opens self.old (string_bytes name) }
-        ensures ok { OnOk result (IfSome (file_of self.old.files (string_bytes name)) (λ bytes. self.new ≡ after_open self.old (string_bytes name) bytes)) }
-        ensures err { OnErr result (self.new ≡ record (after_failed self.old (string_bytes name)) { given = 0 }) }
+        ensures ok { OnOk result (IfSome (file_of self.old.files (string_bytes name)) (λ bytes.
+            self.new ≡ after_open self.old (string_bytes name) bytes)) }
+        ensures err { OnErr result (self.new
+            ≡ record (after_failed self.old (string_bytes name)) { given = 0 }) }
         ensures never_falls { self.old.faults ≤ self.new.faults }
         ensures counted { self.new.faults < 2 ^ 64 }
     {
@@ -157,10 +175,13 @@ impl Shelf for MemoryShelf {
 
     fn read(&mut self, buffer: &mut [u8]) -> Result<usize, Failed>
         ensures exactly { is_ok result ≡ reads self.old }
-        ensures count { IfOk result (λ n. n ≡ min (length buffer.old) (length (open_left self.old.opened))) }
-        ensures moved { IfOk result (λ n. take n buffer.new ≡ take n (open_left self.old.opened)) }
+        ensures count { IfOk result (λ n.
+            n ≡ min (length buffer.old) (length (open_left self.old.opened))) }
+        ensures moved { IfOk result (λ n.
+            take n buffer.new ≡ take n (open_left self.old.opened)) }
         ensures ok { IfOk result (λ n. self.new ≡ after_read self.old n) }
-        ensures err { OnErr result (IfSome (open_name self.old.opened) (λ name. self.new ≡ after_failed self.old name)) }
+        ensures err { OnErr result (IfSome (open_name self.old.opened) (λ name.
+            self.new ≡ after_failed self.old name)) }
         ensures never_falls { self.old.faults ≤ self.new.faults }
         ensures counted { self.new.faults < 2 ^ 64 }
     {
@@ -195,7 +216,8 @@ fn copy_first(from: &[u8], to: &mut [u8]) -> usize
 
 /// The place of the file of this name, where there is one.
 fn place_of(files: &[NamedFile], name: &[u8]) -> Option<usize>
-    ensures { MatchOption result (file_of files.now name.now ≡ None) (λ i. (i < length files.now) × ((d : _) → file_of files.now name.now ≡ Some (slice_index_or files.now i d).bytes)) }
+    ensures { MatchOption result (file_of files.now name.now ≡ None) (λ i. (i < length files.now)
+        × ((d : _) → file_of files.now name.now ≡ Some (slice_index_or files.now i d).bytes)) }
 {
     for (i, file) in files.iter().enumerate() {
         if file.name.as_slice() == name {

@@ -23,7 +23,12 @@ impl Model for MemorySink {
 
     ghost Value = { SinkState };
 
-    ghost view = { λ s. record { fails = s.fails; calls = s.calls; written = s.written.items; faults = s.faults } };
+    ghost view = { λ s. record {
+      fails = s.fails;
+      calls = s.calls;
+      written = s.written.items;
+      faults = s.faults;
+    } };
 }
 
 impl MemorySink {

@@ -42,9 +42,11 @@ pub trait Shelf {
         ensures blames { OnErr result (blamed self.new ≡ string_bytes name) }
         ensures blames_none { OnOk result (blamed self.new ≡ blamed self.old) }
         ensures files_stay { files self.new ≡ files self.old }
-        ensures missing { IfSome (files self.old) (λ told. told (string_bytes name) ≡ None → IsErr result) }
+        ensures missing { IfSome (files self.old) (λ told.
+            told (string_bytes name) ≡ None → IsErr result) }
         ensures opens { OnOk result (named self.new ≡ Some (string_bytes name)) }
-        ensures whole { OnOk result (rest self.new ≡ bytes_of (files self.old) (string_bytes name)) }
+        ensures whole { OnOk result (rest self.new
+            ≡ bytes_of (files self.old) (string_bytes name)) }
         ensures closed { OnErr result (named self.new ≡ None) }
         ensures empty { OnErr result (IfSome (rest self.new) (λ left. left ≡ [])) }
         ensures none_given { given self.new ≡ 0 };
@@ -61,8 +63,10 @@ pub trait Shelf {
         ensures blames_none { OnOk result (blamed self.new ≡ blamed self.old) }
         ensures files_stay { files self.new ≡ files self.old }
         ensures within { IfOk result (λ n. n ≤ length buffer.old) }
-        ensures moves { IfOk result (λ n. Gives (rest self.old) (rest self.new) (take n buffer.new)) }
-        ensures end { result ≡ Ok 0 → 0 < length buffer.old → IfSome (rest self.old) (λ left. left ≡ []) }
+        ensures moves { IfOk result (λ n.
+            Gives (rest self.old) (rest self.new) (take n buffer.new)) }
+        ensures end { result ≡ Ok 0 → 0 < length buffer.old
+            → IfSome (rest self.old) (λ left. left ≡ []) }
         ensures stays_open { OnOk result (named self.new ≡ named self.old) }
         ensures closed { OnErr result (named self.new ≡ None) }
         ensures empty { OnErr result (IfSome (rest self.new) (λ left. left ≡ [])) }
@@ -97,7 +101,8 @@ pub trait Sink {
         ensures within { IfOk result (λ n. n ≤ length piece.now) }
         ensures takes { IfOk result (λ n. 0 < length piece.now → 0 < n) }
         ensures empty { length piece.now ≡ 0 → result ≡ Ok 0 }
-        ensures appends { IfOk result (λ n. Gains (written self.old) (written self.new) (take n piece.now)) }
+        ensures appends { IfOk result (λ n.
+            Gains (written self.old) (written self.new) (take n piece.now)) }
         ensures keeps { OnErr result (written self.new ≡ written self.old) };
 }
 

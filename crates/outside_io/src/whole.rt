@@ -46,7 +46,8 @@ pub fn read_whole<F: Shelf>(
     ensures files_stay { F.files shelf.new ≡ F.files shelf.old }
 
     // Ok: the bytes are those of the file, where the shelf tells them.
-    ensures whole { IfOk result (λ bytes. IfSome (F.files shelf.old) (λ told. told name.now ≡ Some bytes)) }
+    ensures whole { IfOk result (λ bytes. IfSome (F.files shelf.old) (λ told.
+        told name.now ≡ Some bytes)) }
     ensures within { IfOk result (λ bytes. length bytes ≤ limit) }
     ensures taken { IfOk result (λ bytes. F.given shelf.new ≡ length bytes) }
     ensures opened { OnOk result (F.named shelf.new ≡ Some name.now) }
@@ -60,10 +61,12 @@ pub fn read_whole<F: Shelf>(
     // TooLong: one byte more than the limit was taken.
     ensures too_long_given { OnTooLong result (F.given shelf.new ≡ limit + 1) }
     ensures too_long_opened { OnTooLong result (F.named shelf.new ≡ Some name.now) }
-    ensures too_long { OnTooLong result (IfSome (F.files shelf.old) (λ told. IsSomeAnd (told name.now) (λ bytes. limit < length bytes))) }
+    ensures too_long { OnTooLong result (IfSome (F.files shelf.old) (λ told.
+        IsSomeAnd (told name.now) (λ bytes. limit < length bytes))) }
 
     // Memory: before the shelf was asked, or in the middle of this file.
-    ensures memory { OnMemory result ((shelf.new ≡ shelf.old) ⊎ ((F.named shelf.new ≡ Some name.now) × (F.given shelf.new ≤ limit))) }
+    ensures memory { OnMemory result ((shelf.new ≡ shelf.old)
+        ⊎ ((F.named shelf.new ≡ Some name.now) × (F.given shelf.new ≤ limit))) }
 
     // No other answer than Read comes with a fault.
     ensures quiet { UnlessRead result (F.faults shelf.new ≡ F.faults shelf.old) }
@@ -104,14 +107,16 @@ fn take_piece<F: Shelf>(
     ensures counts { IfOk result (λ n. vec_len bytes.new ≡ vec_len bytes.old + n) }
     ensures within { OnOk result (vec_len bytes.new ≤ limit) }
     ensures taken { OnOk result (F.given shelf.new ≡ vec_len bytes.new) }
-    ensures gives { OnOk result ((piece : List ℕ) × (bytes.new.items ≡ bytes.old.items ++ piece) × Gives (F.rest shelf.old) (F.rest shelf.new) piece) }
+    ensures gives { OnOk result ((piece : List ℕ) × (bytes.new.items ≡ bytes.old.items ++ piece)
+        × Gives (F.rest shelf.old) (F.rest shelf.new) piece) }
     ensures end { result ≡ Ok 0 → IfSome (F.rest shelf.old) (λ left. left ≡ []) }
     ensures read_rose { OnRead result (Rose (F.faults shelf.old) (F.faults shelf.new)) }
     ensures read_blames { OnRead result (F.named shelf.old ≡ Some (F.blamed shelf.new)) }
     ensures read_given { OnRead result (F.given shelf.new ≡ F.given shelf.old) }
     ensures read_closed { OnRead result (F.named shelf.new ≡ None) }
     ensures too_long_given { OnTooLong result (F.given shelf.new ≡ limit + 1) }
-    ensures too_long { OnTooLong result (IfSome (F.rest shelf.old) (λ left. limit < vec_len bytes.old + length left)) }
+    ensures too_long { OnTooLong result (IfSome (F.rest shelf.old) (λ left.
+        limit < vec_len bytes.old + length left)) }
     ensures memory_given { OnMemory result (F.given shelf.new ≤ limit) }
 {
     let Ok(n) = shelf.read(piece) else {
@@ -134,7 +139,8 @@ pub fn write_whole<O: Sink>(sink: &mut O, bytes: &[u8]) -> Result<(), PutFault>
     ensures whole { OnOk result (Gains (O.written sink.old) (O.written sink.new) bytes.now) }
     ensures quiet { OnOk result (O.faults sink.new ≡ O.faults sink.old) }
     ensures rose { OnErr result (Rose (O.faults sink.old) (O.faults sink.new)) }
-    ensures prefix { OnErr result (GainsPrefix (O.written sink.old) (O.written sink.new) bytes.now) }
+    ensures prefix { OnErr result
+        (GainsPrefix (O.written sink.old) (O.written sink.new) bytes.now) }
     ensures empty { length bytes.now ≡ 0 → IsOk result }
 {
     let mut at = 0;

@@ -1,6 +1,6 @@
 //! The two file forms, by texts that are just inside or just outside.
 
-use super::{LATCH, call};
+use super::{LATCH, NONE, call};
 use std::alloc::Global;
 use std::process::Abort;
 use std::test::Fail;
@@ -19,7 +19,7 @@ pub fn assert_answer(
     status: u8,
     text: &str,
 ) -> Result<(), Fail> {
-    let outcome = call(rt, alloc, "n.v v.txt", netlist, vectors, (99, 99, 99))?;
+    let outcome = call(rt, alloc, "n.v v.txt", netlist, vectors, NONE)?;
     let (out, err) = if status == 0 { (text, "") } else { ("", text) };
     assert_eq!(rt; outcome.status, status, "at {netlist} {vectors}");
     assert_eq!(rt; outcome.out.as_str(), out, "at {netlist} {vectors}");

@@ -402,33 +402,109 @@ fn netlists_outside_the_form(rt: HostRuntime) -> Result<(), Fail> {
     Ok(())
 }
 
-/// A text with each rule of the grammar, a token behind each space.
-const TOKENS: &str =
-    "`timescale 10 ns / 1 \\ps `celldefine `default_nettype none `default_nettype wor `resetall primitive dff ( q , c , d ) ; output q ; reg q ; input c , d ; initial q = 1'b0 ; table r 0 : ? : 0 ; ( 0 1 ) 1 : ? : 1 ; n ? : ? : - ; endtable endprimitive primitive inv ( output y = 1 , input a , b ) ; table 0 x : 1 ; endtable endprimitive module m ( y , a ) ; output tri [ 3 : 0 ] y ; input a , b ; wire ( strong0 , pull1 ) # ( 1 : 2 : 3 , 4 ) c = { a , y [ 1 ] , 2'b10 } , d = 3 ; wand vectored [ 7 : 0 ] # 5 e , f ; trireg ( small ) scalared [ 1 : 0 ] # ( 0 , 0.5 , 50 ) g ; assign ( weak0 , highz1 ) # 2 { h , y [ 3 : 2 ] } = k , l = 0 ; `endcelldefine specify ( a *> y ) = 0.2 ; endspecify nand ( strong0 , strong1 ) # 1.25 g1 ( y , a , b ) , ( h , 1'b1 ) ; cmos # ( 2 ) ( y , a , b , c ) ; rtran t ( a , b ) ; pullup ( supply1 ) ( a ) ; pulldown ( strong0 , strong1 ) p ( b ) ; dff # 1 f1 ( a , , b ) , f2 ( . q ( a ) , . c ( ) ) ; sub ( strong1 , weak0 ) u ( ) ; endmodule macromodule sub ( input wire [ 2 : 1 ] s , output t , u ) ; endmodule module top ; endmodule module bare ( ) ; endmodule";
+/// A part of a text, with a space between its tokens: what is wrong with the word `always` before one of them, and
+/// whether the text may end behind it.
+struct Part {
+    tokens: &'static str,
+    wrong: &'static str,
+    is_end: bool,
+}
 
-/// The tokens behind which a text may end.
-const WHOLE: [&str; 7] = [
-    "endprimitive",
-    "endmodule",
-    "\\ps",
-    "`celldefine",
-    "none",
-    "wor",
-    "`resetall",
+/// A text with each rule of the grammar.
+#[rattlefmt::skip]
+static PARTS: [Part; 46] = [
+    Part { tokens: "`timescale 10 ns / 1 \\ps", wrong: "unsupported", is_end: true },
+    Part { tokens: "`celldefine", wrong: "unsupported", is_end: true },
+    Part { tokens: "`default_nettype none", wrong: "unsupported", is_end: true },
+    Part { tokens: "`default_nettype wor", wrong: "unsupported", is_end: true },
+    Part { tokens: "`resetall", wrong: "unsupported", is_end: true },
+    Part { tokens: "primitive dff ( q , c , d ) ;", wrong: "unsupported", is_end: false },
+    Part { tokens: "output q ;", wrong: "unsupported", is_end: false },
+    Part { tokens: "reg q ;", wrong: "unsupported", is_end: false },
+    Part { tokens: "input c , d ;", wrong: "unsupported", is_end: false },
+    Part { tokens: "initial q = 1'b0 ;", wrong: "unsupported", is_end: false },
+    Part { tokens: "table", wrong: "unsupported", is_end: false },
+    Part { tokens: "r 0 : ? : 0 ;", wrong: "bad byte", is_end: false },
+    Part { tokens: "( 0 1 ) 1 : ? : 1 ;", wrong: "bad byte", is_end: false },
+    Part { tokens: "n ? : ? : - ;", wrong: "bad byte", is_end: false },
+    Part { tokens: "endtable", wrong: "bad byte", is_end: false },
+    Part { tokens: "endprimitive", wrong: "unsupported", is_end: true },
+    Part { tokens: "primitive inv ( output y = 1 , input a , b ) ;", wrong: "unsupported", is_end: false },
+    Part { tokens: "table", wrong: "unsupported", is_end: false },
+    Part { tokens: "0 x : 1 ;", wrong: "bad byte", is_end: false },
+    Part { tokens: "endtable", wrong: "bad byte", is_end: false },
+    Part { tokens: "endprimitive", wrong: "unsupported", is_end: true },
+    Part { tokens: "module m ( y , a ) ;", wrong: "unsupported", is_end: false },
+    Part { tokens: "output tri [ 3 : 0 ] y ;", wrong: "unsupported", is_end: false },
+    Part { tokens: "input a , b ;", wrong: "unsupported", is_end: false },
+    Part { tokens: "wire ( strong0 , pull1 ) # ( 1 : 2 : 3 , 4 ) c = { a , y [ 1 ] , 2'b10 } , d = 3 ;", wrong: "unsupported", is_end: false },
+    Part { tokens: "wand vectored [ 7 : 0 ] # 5 e , f ;", wrong: "unsupported", is_end: false },
+    Part { tokens: "trireg ( small ) scalared [ 1 : 0 ] # ( 0 , 0.5 , 50 ) g ;", wrong: "unsupported", is_end: false },
+    Part { tokens: "assign ( weak0 , highz1 ) # 2 { h , y [ 3 : 2 ] } = k , l = 0 ;", wrong: "unsupported", is_end: false },
+    Part { tokens: "`endcelldefine", wrong: "unsupported", is_end: false },
+    Part { tokens: "specify", wrong: "unsupported", is_end: false },
+    Part { tokens: "( a *> y ) = 0.2 ;", wrong: "syntax error", is_end: false },
+    Part { tokens: "endspecify", wrong: "syntax error", is_end: false },
+    Part { tokens: "nand ( strong0 , strong1 ) # 1.25 g1 ( y , a , b ) , ( h , 1'b1 ) ;", wrong: "unsupported", is_end: false },
+    Part { tokens: "cmos # ( 2 ) ( y , a , b , c ) ;", wrong: "unsupported", is_end: false },
+    Part { tokens: "rtran t ( a , b ) ;", wrong: "unsupported", is_end: false },
+    Part { tokens: "pullup ( supply1 ) ( a ) ;", wrong: "unsupported", is_end: false },
+    Part { tokens: "pulldown ( strong0 , strong1 ) p ( b ) ;", wrong: "unsupported", is_end: false },
+    Part { tokens: "dff # 1 f1 ( a , , b ) , f2 ( . q ( a ) , . c ( ) ) ;", wrong: "unsupported", is_end: false },
+    Part { tokens: "sub ( strong1 , weak0 ) u ( ) ;", wrong: "unsupported", is_end: false },
+    Part { tokens: "endmodule", wrong: "unsupported", is_end: true },
+    Part { tokens: "macromodule sub ( input wire [ 2 : 1 ] s , output t , u ) ;", wrong: "unsupported", is_end: false },
+    Part { tokens: "endmodule", wrong: "unsupported", is_end: true },
+    Part { tokens: "module top ;", wrong: "unsupported", is_end: false },
+    Part { tokens: "endmodule", wrong: "unsupported", is_end: true },
+    Part { tokens: "module bare ( ) ;", wrong: "unsupported", is_end: false },
+    Part { tokens: "endmodule", wrong: "unsupported", is_end: true },
 ];
+
+fn parts() -> &'static [Part] {
+    &PARTS
+}
+
+/// Lines of a text, the number of the line behind them, and whether the text may end there.
+#[derive(Drop)]
+struct Lines {
+    text: String,
+    next: u64,
+    is_whole: bool,
+}
 
 /// These lines and one more are refused at that one.
 fn assert_refused_at_end(
     rt: &(impl Abort + Threads + Sync),
     alloc: Global,
-    lines: &str,
+    lines: &Lines,
     last: &str,
-    line: u64,
     wrong: &str,
 ) -> Result<(), Fail> {
-    let netlist = format!(in alloc; "{lines}{last}")?;
-    let text = format!(in alloc; "n.v:{line}: {wrong}\n")?;
+    let netlist = format!(in alloc; "{}{last}", lines.text)?;
+    let text = format!(in alloc; "n.v:{}: {wrong}\n", lines.next)?;
     assert_answer(rt, alloc, netlist.as_str(), ONE, 3, text.as_str())
+}
+
+/// Adds a line for each token of the part. Before each of them the word is refused, and the end where it may not be.
+fn add_part(
+    rt: &(impl Abort + Threads + Sync),
+    alloc: Global,
+    lines: &mut Lines,
+    part: &Part,
+) -> Result<(), Fail> {
+    for token in part.tokens.split(' ') {
+        assert_refused_at_end(rt, alloc, lines, "always", part.wrong)?;
+        if !lines.is_whole {
+            assert_refused_at_end(rt, alloc, lines, "", "syntax error")?;
+        }
+        lines.text.push_str(token)?;
+        lines.text.push_str("\n")?;
+        lines.next = lines.next.saturating_add(1);
+        lines.is_whole = false;
+    }
+    lines.is_whole = part.is_end;
+    Ok(())
 }
 
 /// Each first part of a text is one: where it is cut, the end is out of place, and so is a word that the grammar
@@ -436,29 +512,13 @@ fn assert_refused_at_end(
 #[test]
 fn a_cut_text_is_refused_at_its_end(rt: HostRuntime) -> Result<(), Fail> {
     let alloc = rt.alloc();
-    let mut lines = String::new(alloc);
-    let mut line: u64 = 1;
-    let mut table = false;
-    let mut block = false;
-    let mut whole = true;
-    for token in TOKENS.split(' ') {
-        let wrong = if table {
-            "bad byte"
-        } else if block {
-            "syntax error"
-        } else {
-            "unsupported"
-        };
-        assert_refused_at_end(&rt, alloc, lines.as_str(), "always", line, wrong)?;
-        if !whole {
-            assert_refused_at_end(&rt, alloc, lines.as_str(), "", line, "syntax error")?;
-        }
-        lines.push_str(token)?;
-        lines.push_str("\n")?;
-        line = line.saturating_add(1);
-        table = (table || token == "table") && token != "endtable";
-        block = (block || token == "specify") && token != "endspecify";
-        whole = WHOLE.contains(&token);
+    let mut lines = Lines {
+        text: String::new(alloc),
+        next: 1,
+        is_whole: true,
+    };
+    for part in parts() {
+        add_part(&rt, alloc, &mut lines, part)?;
     }
-    assert_answer(&rt, alloc, lines.as_str(), ONE, 3, "n.v: unbuilt\n")
+    assert_answer(&rt, alloc, lines.text.as_str(), ONE, 3, "n.v: unbuilt\n")
 }

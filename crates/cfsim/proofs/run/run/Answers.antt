@@ -4,7 +4,7 @@ use Rattle.std.proofs.lemmas.List.{get_or-map, length-map}
 use Rattle.outside_io.specs.Outside.{Gains}
 use Rattle.cfsim.specs.Words.{Call, call_of}
 use Rattle.cfsim.specs.Messages.{usage_line}
-use Rattle.cfsim.specs.Answer.{Answer, answer, with_netlist, netlist_in}
+use Rattle.cfsim.specs.Answer.{Answer, answer, with_netlist, netlist_of_file}
 use Rattle.cfsim.specs.Reports.{answer_of}
 use Rattle.cfsim.proofs.NetlistLaws as laws
 use Rattle.cfsim.proofs.RunClauses as clauses
@@ -73,7 +73,7 @@ call_is g c =
 report_written : (g : given.Over) (c : After-drop-report-in-Ok g) → IsWritten (g.F.Shelf.files c.args.shelf.now) (map string_bytes c.args.words.now) (answer_of c.in-Ok.report) c.deliver-in-Ok.result
 report_written g c = record {
   reported = reported_cases c.in-Ok.report.status c.in-Ok.ensures.statuses;
-  answered = λ ne. if_some_map (g.F.Shelf.files c.args.shelf.now) (λ files. answer_of c.in-Ok.report ≡ with_netlist files (named g c) (netlist_in (files c.as_str.result.now))) (λ files. answer_of c.in-Ok.report ≡ answer (map string_bytes c.args.words.now) files)
+  answered = λ ne. if_some_map (g.F.Shelf.files c.args.shelf.now) (λ files. answer_of c.in-Ok.report ≡ with_netlist files (named g c) (netlist_of_file (files c.as_str.result.now))) (λ files. answer_of c.in-Ok.report ≡ answer (map string_bytes c.args.words.now) files)
       (λ files is. is ∙ sym (answer_call (map string_bytes c.args.words.now) files (named g c) (call_is g c))) (c.in-Ok.ensures.answered ne);
   cases = c.deliver-in-Ok.ensures.cases;
 }
