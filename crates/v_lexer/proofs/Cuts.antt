@@ -2,6 +2,7 @@
 use Rattle.std.proofs.Common.{◌≡◌, ℕ, zero, suc, ◌+◌, ◌≤◌, ◌<◌, Bool, true, false, ◌||◌, eqb, List, [], ◌∷◌, take, drop, if◌then◌else◌, refl, sym, ap, ◌∙◌, arith, inl, inr}
 use Rattle.std.proofs.lemmas.Bool.{cases_Bool, true≢false}
 use Rattle.std.proofs.lemmas.List.{drop-take}
+use Rattle.std.proofs.lemmas.Option.{none-some, same_Some}
 use Rattle.std.specs.Prelude.{Option, Some, None}
 use Rattle.std.specs.List.{prefix_len}
 use Rattle.v_lexer.specs.declared.literals.Base.{Base}
@@ -57,22 +58,9 @@ form_with-cut signed base start bytes some =
     ∙ ap (λ (digits : List ℕ). shown signed base start run (first rest) digits) (take_cut run run rest le)
     ∙ sym (form_with-shown signed base start bytes)
 
-has_form : Option Form → Bool
-has_form None = false
-has_form (Some form) = true
-
-form_or : Form → Option Form → Form
-form_or other None = other
-form_or other (Some form) = form
-
-none_some : (form : Form) → None ≡ Some form → ⊥
-unfolding has_form
-none_some form is = true≢false (sym (ap has_form is))
-
 if_some : (b : Bool) (form other : Form) → (if b then None else Some form) ≡ Some other → (b ≡ false) × (form ≡ other)
-unfolding form_or
-if_some true form other is = absurd (none_some other is)
-if_some false form other is = (refl, ap (form_or form) is)
+if_some true form other is = absurd (none-some other is)
+if_some false form other is = (refl, same_Some form other is)
 
 some_run : (run : ℕ) (b : Bool) → (eqb run 0 || b) ≡ false → 0 < run
 some_run zero b h = absurd (true≢false h)
@@ -88,7 +76,7 @@ form_with-some signed base start bytes form is =
     (some_run run (eqb (first (drop start bytes)) 95) parts.0, sym (ap (λ (f : Form). f.len) parts.1))
 
 pub and_then-some : (o : Option Base) (f : Base → Option Form) (form : Form) → and_then o f ≡ Some form → (base : Base) × (o ≡ Some base) × (f base ≡ Some form)
-and_then-some None f form is = absurd (none_some form is)
+and_then-some None f form is = absurd (none-some form is)
 and_then-some (Some base) f form is = (base, refl, is)
 
 -- a form by the length of its sign and the bytes from its first on
@@ -102,22 +90,22 @@ form_at-formed bytes = refl
 formed-cut : (s : ℕ) (bytes : List ℕ) (form : Form) → formed s bytes ≡ Some form → (1 + s < form.len) × (formed s (take form.len bytes) ≡ Some form)
 unfolding formed
 formed-cut s bytes form is =
-    let place : ℕ = 1 + s in
+    let offset : ℕ = 1 + s in
     let parts : (base : Base) × (base_of (first (drop (1 + s) bytes)) ≡ Some base) × (form_after (eqb s 1) (1 + s) bytes base ≡ Some form) = and_then-some (base_of (first (drop (1 + s) bytes))) (form_after (eqb s 1) (1 + s) bytes) form is in
     let base : Base = parts.0 in
-    let blanks : ℕ = blank_run (drop (place + 1) bytes) in
-    let start : ℕ = place + 1 + blanks in
+    let blanks : ℕ = blank_run (drop (offset + 1) bytes) in
+    let start : ℕ = offset + 1 + blanks in
     let run : ℕ = literal_run (drop start bytes) in
     let cut : List ℕ = take form.len bytes in
     let long : (0 < run) × (form.len ≡ start + run) = form_with-some (eqb s 1) base start bytes form parts.2 in
-    let less : place < form.len = omega (arith, long.0, long.1) in
-    let len : form.len ≡ (place + 1) + (blanks + run) = omega (arith, long.1) in
-    let tail : drop (place + 1) cut ≡ take (blanks + run) (drop (place + 1) bytes) = ap (λ m. drop (place + 1) (take m bytes)) len ∙ drop-take (place + 1) (blanks + run) bytes in
+    let less : offset < form.len = omega (arith, long.0, long.1) in
+    let len : form.len ≡ (offset + 1) + (blanks + run) = omega (arith, long.1) in
+    let tail : drop (offset + 1) cut ≡ take (blanks + run) (drop (offset + 1) bytes) = ap (λ m. drop (offset + 1) (take m bytes)) len ∙ drop-take (offset + 1) (blanks + run) bytes in
     let le : blanks ≤ blanks + run = omega arith in
-    let same_blanks : blank_run (drop (place + 1) cut) ≡ blanks = ap (λ (bs : List ℕ). blank_run bs) tail ∙ run_cut is_blank (blanks + run) (drop (place + 1) bytes) le in
-    let same_base : base_of (first (drop place cut)) ≡ Some base = ap base_of (first_cut place form.len bytes less) ∙ parts.1 in
+    let same_blanks : blank_run (drop (offset + 1) cut) ≡ blanks = ap (λ (bs : List ℕ). blank_run bs) tail ∙ run_cut is_blank (blanks + run) (drop (offset + 1) bytes) le in
+    let same_base : base_of (first (drop offset cut)) ≡ Some base = ap base_of (first_cut offset form.len bytes less) ∙ parts.1 in
     let same_form : form_with (eqb s 1) base start cut ≡ Some form = ap (λ m. form_with (eqb s 1) base start (take m bytes)) long.1 ∙ form_with-cut (eqb s 1) base start bytes long.0 ∙ parts.2 in
-    (less, ap (λ (o : Option Base). and_then o (form_after (eqb s 1) place cut)) same_base ∙ ap (λ m. form_with (eqb s 1) base (place + 1 + m) cut) same_blanks ∙ same_form)
+    (less, ap (λ (o : Option Base). and_then o (form_after (eqb s 1) offset cut)) same_base ∙ ap (λ m. form_with (eqb s 1) base (offset + 1 + m) cut) same_blanks ∙ same_form)
 
 -- a based number from its `'` on
 pub form_cut : (bytes : List ℕ) (form : Form) → form_at bytes ≡ Some form → (0 < form.len) × (form_at (take form.len bytes) ≡ Some form)

@@ -1,6 +1,6 @@
 -- Bits of digits one after the other, as loops make them.
-use Rattle.std.proofs.Common.{◌≡◌, rules, leb, ◌&&◌, ◌||◌, inl, inr, ℕ, suc, ◌+◌, ◌-◌, ◌/◌, ◌%◌, ◌^◌, ◌<◌, ◌≤◌, Bool, true, false, eqb, if◌then◌else◌, List, [], ◌∷◌, ◌++◌, length, drop, refl, sym, ap, ◌∙◌, arith, append_assoc, append-nil}
-use Rattle.std.proofs.lemmas.Bool.{true≢false, or_cases}
+use Rattle.std.proofs.Common.{◌≡◌, rules, leb, ◌&&◌, ◌||◌, inl, inr, ℕ, suc, ◌+◌, ◌-◌, ◌/◌, ◌%◌, ◌^◌, ◌<◌, ◌≤◌, true, eqb, if◌then◌else◌, List, [], ◌∷◌, ◌++◌, length, drop, sym, ap, ◌∙◌, arith, append_assoc, append-nil}
+use Rattle.std.proofs.lemmas.Bool.{or_cases, and_parts, or_left, or_right}
 use Rattle.std.specs.Prelude.{Option, Some, None}
 use Rattle.v_lexer.specs.declared.literals.Base.{Base}
 use Rattle.v_lexer.specs.declared.literals.Base.TheVariants.{Decimal}
@@ -36,30 +36,15 @@ pub binary_done : (n value : ℕ) (bits all : List Bit) → n ≡ 0 → bits ++ 
 unfolding binary
 binary_done n value bits all none so_far = sym (append-nil bits) ∙ (rw none at so_far)
 
-and_left : (a b : Bool) → (a && b) ≡ true → a ≡ true
-and_left true b h = refl
-and_left false b h = h
-
-and_right : (a b : Bool) → (a && b) ≡ true → b ≡ true
-and_right true b h = h
-and_right false b h = absurd (true≢false (sym h))
-
-or_left : (a b : Bool) → a ≡ true → (a || b) ≡ true
-or_left a b h = ap (λ x. x || b) h
-
-or_right : (a b : Bool) → b ≡ true → (a || b) ≡ true
-or_right true b h = refl
-or_right false b h = h
-
 -- a size that holds is at most 128
 size_within : (size : Option ℕ) → size_holds size ≡ true → width_of size ≤ 128
 size_within None h = omega arith
-size_within (Some size) h = let e : leb size 128 ≡ true = and_right (leb 1 size) (leb size 128) h in search (rules, e)
+size_within (Some size) h = let e : leb size 128 ≡ true = (and_parts (leb 1 size) (leb size 128) h).1 in search (rules, e)
 
 pub holds_within : (size : Option ℕ) (form : Form) → holds size form ≡ true → width_of size ≤ 128
 unfolding holds
 holds_within size form h =
-    size_within size (and_left (size_holds size) (digits_hold form.base form.digits) (and_left (size_holds size && digits_hold form.base form.digits) (value_holds size form.base form.digits) h))
+    size_within size (and_parts (size_holds size) (digits_hold form.base form.digits) (and_parts (size_holds size && digits_hold form.base form.digits) (value_holds size form.base form.digits) h).0).0
 
 larger : (value : ℕ) → leb value 4294967295 ≡ true → leb value 340282366920938463463374607431768211455 ≡ true
 larger value e = let le : value ≤ 4294967295 = search (rules, e) in let more : value ≤ 340282366920938463463374607431768211455 = omega arith in search (rules, more)
@@ -78,4 +63,4 @@ pub holds_small : (size : Option ℕ) (form : Form) → holds size form ≡ true
     → (is_single form.digits || leb (decimal_value form.digits) 340282366920938463463374607431768211455) ≡ true
 unfolding holds
 holds_small size form h base =
-    decimal_small size form.digits (ap (λ b. value_holds size b form.digits) (sym base) ∙ and_right (size_holds size && digits_hold form.base form.digits) (value_holds size form.base form.digits) h)
+    decimal_small size form.digits (ap (λ b. value_holds size b form.digits) (sym base) ∙ (and_parts (size_holds size && digits_hold form.base form.digits) (value_holds size form.base form.digits) h).1)

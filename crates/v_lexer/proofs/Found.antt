@@ -14,7 +14,7 @@ use Rattle.v_lexer.proofs.Whole.{front_fails}
 use Rattle.v_lexer.proofs.Within.{place_within}
 use Rattle.v_lexer.proofs.Pieces.{at_end, tokens_step, fault_of}
 
--- from a place on the tokens are those of pieces, or the fault is the first behind pieces
+-- from an offset on the tokens are those of pieces, or the fault is the first behind pieces
 abbrev Answers : List ℕ → Bool → ℕ → Lexed → Type 0
 Answers text table at (Ok tokens) = (pieces : List Piece) × Reads text table at pieces tokens
 Answers text table at (Err fault) = (wrong : FaultKind) × (line : ℕ) × (pieces : List Piece) × (fault ≡ fault_at wrong line) × Stops text wrong line table at pieces
@@ -30,7 +30,7 @@ abbrev Goes : List ℕ → Bool → ℕ → Type 0
 Goes text table at = (piece : Piece) → Stands text table at piece
     → Answers text (table_after table piece (drop at text)) (at + piece.len) (tokens_from 0 (table_after table piece (drop at text)) (at + piece.len) (line_of text (at + piece.len)) (drop (at + piece.len) text))
 
--- what is found at a place, and what the tokens behind it say
+-- what is found at an offset, and what the tokens behind it say
 answers_here : (text : List ℕ) (table : Bool) (at : ℕ) (found : Found) → at < length text → place_at table (drop at text) ≡ found
     → Goes text table at → Answers text table at (tokens_from 0 table at (line_of text at) (drop at text))
 answers_here text table at (Err wrong) less is behind =
@@ -48,7 +48,7 @@ answers_end text table at is =
     let none : length (drop at text) ≡ 0 = omega (arith, is, length-drop at text) in
     subst (λ (lexed : Lexed). Answers text table at lexed) (sym (at_end (drop at text) table at (line_of text at) none)) ([], (is, refl))
 
--- from a place on, with so many bytes left at most
+-- from an offset on, with so many bytes left at most
 answers_from : (n : ℕ) (text : List ℕ) (table : Bool) (at : ℕ) → at ≤ length text → length text ≤ at + n → Answers text table at (tokens_from 0 table at (line_of text at) (drop at text))
 answers_from zero text table at le left = answers_end text table at (omega (arith, le, left))
 answers_from (suc n) text table at le left =

@@ -15,3 +15,4 @@ pub mod Shapes
 pub mod Decimals
 pub mod Sound
 pub mod Reach
+pub mod Cases

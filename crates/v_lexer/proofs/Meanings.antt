@@ -1,6 +1,6 @@
--- What is found at a place has the meaning that its kind says.
+-- What is found at an offset has the meaning that its kind says.
 use Rattle.std.proofs.Common.{◌≡◌, ℕ, get_or, zero, suc, ◌+◌, ◌-◌, ◌≤◌, ◌<◌, Bool, true, false, not, ◌&&◌, ◌||◌, eqb, leb, List, [], ◌∷◌, length, take, drop, replicate, if◌then◌else◌, refl, sym, ap, subst, ◌∙◌, arith, inl, inr, length-append, length-drop}
-use Rattle.std.proofs.lemmas.Bool.{cases_Bool, true≢false, or_cases, and_parts, not-false, false_from_ne_true, eqb-true, leb-true, ltb-true, ltb-false}
+use Rattle.std.proofs.lemmas.Bool.{cases_Bool, true≢false, or_cases, and_parts, false_from_ne_true, eqb-true, leb-true, ltb-true, ltb-false}
 use Rattle.std.proofs.lemmas.List.{drop-take, length-replicate, get_or-take}
 use Rattle.std.proofs.lemmas.List.Folds.{length-prefix_len}
 use Rattle.std.proofs.lemmas.List.Sums.{prefix_len_passes}
@@ -12,23 +12,21 @@ use Rattle.std.specs.Char.{is_ascii_digit, is_ascii_alphanumeric}
 use Rattle.name_table.specs.Names.{same_name}
 use Rattle.v_lexer.specs.declared.token.TokenKind.{TokenKind}
 use Rattle.v_lexer.specs.declared.token.TokenKind.TheVariants as kind
-use Rattle.v_lexer.specs.declared.fault.FaultKind.{FaultKind}
-use Rattle.v_lexer.specs.declared.fault.FaultKind.TheVariants as fault
 use Rattle.v_lexer.specs.declared.literals.Base.{Base}
 use Rattle.v_lexer.specs.declared.literals.Base.TheVariants.{Binary, Octal, Decimal, Hexadecimal}
 use Rattle.v_lexer.specs.declared.literals.Bit.{Bit}
 use Rattle.v_lexer.specs.declared.values.Literal.{Literal}
-use Rattle.v_lexer.specs.Bytes.{first, begins, is_letter, is_name_byte, is_number_byte, is_blank, is_visible, name_run, number_run, blank_run, visible_run, line_run}
-use Rattle.v_lexer.specs.Quoted.{text_len}
-use Rattle.v_lexer.specs.Gaps.{comment_len, attribute_len}
-use Rattle.v_lexer.specs.Numbers.{decimal_value, decimal_len, exponent_len}
+use Rattle.v_lexer.specs.Bytes.{first, begins, is_letter, is_name_byte, is_number_byte, is_blank, is_visible, name_run, number_run, blank_run, visible_run}
+use Rattle.v_lexer.specs.Numbers.{decimal_value}
 use Rattle.v_lexer.specs.Literals.{extension_of, Form, form_at, holds, size_holds, digits_hold, value_holds, filler, fit, binary, bits_of, bits_in, is_single, bit_at}
 use Rattle.v_lexer.specs.Words.{is_reserved, reserved, grammar_words, words_of}
-use Rattle.v_lexer.specs.Places.{Found, ended, mark_at, slash_at, open_at, quote_at, escaped_at, directive_at, name_at, literal_with, literal_at, exponent_at, quote_place, whole_at, number_at, plain_at, is_symbol, is_table_end, row_at, place_at}
+use Rattle.v_lexer.specs.Places.{Found, quote_offset, is_symbol, is_table_end, place_at}
 use Rattle.v_lexer.specs.Values.{name_text, width_of, meaning, literal_of}
 use Rattle.v_lexer.specs.Sound.{IsVisible, HasBits}
 use Rattle.v_lexer.proofs.Digits.{holds_within}
 use Rattle.v_lexer.proofs.Fronts.{name_run_some, number_run_some}
+use Rattle.v_lexer.proofs.Cases.{Case, NumberCase, place_case}
+use Rattle.v_lexer.proofs.Cases as case
 use Rattle.v_lexer.proofs.Cuts.{run_cut, first_cut, take_cut, form_cut}
 
 -- what a kind says of the bytes of a token, which are as many as the length
@@ -47,44 +45,6 @@ Meant (Some other) len bytes = Unit {0}
 abbrev pub Says : List ℕ → Found → Type 0
 Says bytes (Ok piece) = Meant piece.kind piece.len (take piece.len bytes)
 Says bytes (Err wrong) = Unit {0}
-
-either : (bytes : List ℕ) (b : Bool) (x y : Found) → (b ≡ true → Says bytes x) → (b ≡ false → Says bytes y) → Says bytes (if b then x else y)
-either bytes true x y f g = f refl
-either bytes false x y f g = g refl
-
-gap_ended : (bytes : List ℕ) (wrong : FaultKind) (len : Option ℕ) → Says bytes (ended None wrong len)
-gap_ended bytes wrong None = tt
-gap_ended bytes wrong (Some len) = tt
-
-text_ended : (bytes : List ℕ) (wrong : FaultKind) (len : Option ℕ) → Says bytes (ended (Some kind.Text) wrong len)
-text_ended bytes wrong None = tt
-text_ended bytes wrong (Some len) = tt
-
-mark_says : (bytes : List ℕ) → Says bytes (mark_at bytes)
-unfolding mark_at
-mark_says bytes = either bytes (is_visible (first bytes)) (Ok (record { kind = Some kind.Mark; len = 1 })) (Err fault.BadByte)
-    (λ h. (refl, ap is_visible (first_cut 0 1 bytes (omega arith)) ∙ h)) (λ _. tt)
-
-slash_says : (other : Found) (bytes : List ℕ) → Says bytes other → Says bytes (slash_at other bytes)
-unfolding slash_at
-slash_says other bytes says =
-    either bytes (begins 47 47 bytes) (Ok (record { kind = None; len = line_run bytes })) (if begins 47 42 bytes then ended None fault.OpenComment (comment_len bytes) else other)
-    (λ _. tt)
-    (λ _. either bytes (begins 47 42 bytes) (ended None fault.OpenComment (comment_len bytes)) other (λ _. gap_ended bytes fault.OpenComment (comment_len bytes)) (λ _. says))
-
-one_mark : (bytes : List ℕ) (byte : ℕ) → first bytes ≡ byte → is_visible byte ≡ true → Says bytes (Ok (record { kind = Some kind.Mark; len = 1 }))
-one_mark bytes byte is visible = (refl, ap is_visible (first_cut 0 1 bytes (omega arith) ∙ is) ∙ visible)
-
-open_says : (bytes : List ℕ) → first bytes ≡ 40 → Says bytes (open_at bytes)
-unfolding open_at
-open_says bytes is =
-    either bytes (begins 40 42 bytes && not (eqb (first (drop 2 bytes)) 41)) (ended None fault.OpenComment (attribute_len bytes)) (Ok (record { kind = Some kind.Mark; len = 1 }))
-    (λ _. gap_ended bytes fault.OpenComment (attribute_len bytes))
-    (λ _. one_mark bytes 40 is refl)
-
-quote_says : (bytes : List ℕ) → Says bytes (quote_at bytes)
-unfolding quote_at
-quote_says bytes = text_ended bytes fault.OpenString (text_len bytes)
 
 -- a run of visible bytes
 run_visible : (p : ℕ → Bool) (bytes : List ℕ) → ((byte : ℕ) → p byte ≡ true → (33 ≤ byte) × (byte ≤ 126)) → 0 < prefix_len p bytes → IsVisible (take (prefix_len p bytes) bytes)
@@ -131,37 +91,22 @@ plain_text bytes other = rw other refl
 escaped_text : (bytes : List ℕ) → first bytes ≡ 92 → name_text bytes ≡ drop 1 bytes
 escaped_text bytes is = rw is refl
 
-escaped_says : (bytes : List ℕ) → first bytes ≡ 92 → Says bytes (escaped_at bytes)
-unfolding escaped_at
-escaped_says bytes is =
+escaped_says : (bytes : List ℕ) → first bytes ≡ 92 → 0 < visible_run (drop 1 bytes) → IsVisible (name_text (take (1 + visible_run (drop 1 bytes)) bytes))
+escaped_says bytes is some =
     let run : ℕ = visible_run (drop 1 bytes) in
-    either bytes (nat_lt 0 run) (Ok (record { kind = Some kind.Name; len = 1 + run })) (Err fault.BadByte)
-    (λ h.
-    let some : 0 < run = ltb-true 0 run h in
     let less : 0 < 1 + run = omega arith in
     let text : name_text (take (1 + run) bytes) ≡ take run (drop 1 bytes) = escaped_text (take (1 + run) bytes) (first_cut 0 (1 + run) bytes less ∙ is) ∙ drop-take 1 run bytes in
-    subst (λ (bs : List ℕ). IsVisible bs) (sym text) (run_visible is_visible (drop 1 bytes) visible_bytes some))
-    (λ _. tt)
-
-directive_says : (bytes : List ℕ) → Says bytes (directive_at bytes)
-unfolding directive_at
-directive_says bytes = either bytes (is_letter (first (drop 1 bytes))) (Ok (record { kind = Some kind.Directive; len = 1 + name_run (drop 1 bytes) })) (Err fault.BadByte) (λ _. tt) (λ _. tt)
-
-word_or_name : (b : Bool) (len : ℕ) (bytes : List ℕ) → (b ≡ true → is_reserved bytes ≡ true) → (b ≡ false → IsVisible (name_text bytes)) → Meant (Some (if b then kind.Word else kind.Name)) len bytes
-word_or_name true len bytes word name = word refl
-word_or_name false len bytes word name = name refl
+    subst (λ (bs : List ℕ). IsVisible bs) (sym text) (run_visible is_visible (drop 1 bytes) visible_bytes some)
 
 no_backslash : (byte : ℕ) → is_letter byte ≡ true → eqb byte 92 ≡ false
 no_backslash byte letter = false_from_ne_true (eqb byte 92) (λ e. true≢false (sym (ap is_letter (sym (eqb-true byte 92 e)) ∙ letter)))
 
-name_says : (bytes : List ℕ) → is_letter (first bytes) ≡ true → Says bytes (name_at bytes)
-unfolding name_at
+name_says : (bytes : List ℕ) → is_letter (first bytes) ≡ true → IsVisible (name_text (take (name_run bytes) bytes))
 name_says bytes letter =
     let run : ℕ = name_run bytes in
     let some : 0 < run = name_run_some bytes letter in
     let other : eqb (first (take run bytes)) 92 ≡ false = ap (λ byte. eqb byte 92) (first_cut 0 run bytes some) ∙ no_backslash (first bytes) letter in
-    word_or_name (is_reserved (take run bytes)) run (take run bytes) (λ word. word)
-    (λ _. subst (λ (bs : List ℕ). IsVisible bs) (sym (plain_text (take run bytes) other)) (run_visible is_name_byte bytes name_bytes some))
+    subst (λ (bs : List ℕ). IsVisible bs) (sym (plain_text (take run bytes) other)) (run_visible is_name_byte bytes name_bytes some)
 
 -- as many bits as the number
 length-binary : (n value : ℕ) → length (binary n value) ≡ n
@@ -219,21 +164,16 @@ based_means size form bytes is h =
       few = omega (arith, width, holds_within size form h);
     }
 
--- a based number at a place is read alike in the text cut behind it
+-- a based number at an offset is read alike in the text cut behind it
 abbrev ReadsBehind : Option ℕ → ℕ → List ℕ → Type 0
-ReadsBehind size place bytes = (len : ℕ) → place < len → literal_of (take len bytes) ≡ meaning size (form_at (drop place (take len bytes)))
+ReadsBehind size offset bytes = (len : ℕ) → offset < len → literal_of (take len bytes) ≡ meaning size (form_at (drop offset (take len bytes)))
 
-literal_with_says : (size : Option ℕ) (place : ℕ) (bytes : List ℕ) (found : Option Form) → form_at (drop place bytes) ≡ found → ReadsBehind size place bytes → Says bytes (literal_with size place found)
-unfolding literal_with
-literal_with_says size place bytes None is reads = tt
-literal_with_says size place bytes (Some form) is reads =
-    either bytes (holds size form) (Ok (record { kind = Some kind.Based; len = place + form.len })) (Err fault.BadNumber)
-    (λ h.
-    let cut : (0 < form.len) × (form_at (take form.len (drop place bytes)) ≡ Some form) = form_cut (drop place bytes) form is in
-    let less : place < place + form.len = omega (arith, cut.0) in
-    based_means size form (take (place + form.len) bytes)
-    (reads (place + form.len) less ∙ ap (λ (bs : List ℕ). meaning size (form_at bs)) (drop-take place form.len bytes) ∙ ap (meaning size) cut.1) h)
-    (λ _. tt)
+based_says : (size : Option ℕ) (offset : ℕ) (bytes : List ℕ) (form : Form) → form_at (drop offset bytes) ≡ Some form → holds size form ≡ true → ReadsBehind size offset bytes → HasBits (take (offset + form.len) bytes)
+based_says size offset bytes form is h reads =
+    let cut : (0 < form.len) × (form_at (take form.len (drop offset bytes)) ≡ Some form) = form_cut (drop offset bytes) form is in
+    let less : offset < offset + form.len = omega (arith, cut.0) in
+    based_means size form (take (offset + form.len) bytes)
+    (reads (offset + form.len) less ∙ ap (λ (bs : List ℕ). meaning size (form_at bs)) (drop-take offset form.len bytes) ∙ ap (meaning size) cut.1) h
 
 -- without size
 no_number_byte : (byte : ℕ) → byte ≡ 39 → is_number_byte byte ≡ false
@@ -247,22 +187,22 @@ plain_reads (byte ∷ bytes) is (suc len) less = rw (no_number_byte byte is) ref
 
 -- with a size
 read_by : ℕ → List ℕ → ℕ → List ℕ → Option Literal
-read_by n digits place text =
+read_by n digits offset text =
     if eqb n 0 then meaning None (form_at text)
-    else if nat_lt (decimal_value digits) 2147483648 then meaning (Some (decimal_value digits)) (form_at (drop place text))
+    else if nat_lt (decimal_value digits) 2147483648 then meaning (Some (decimal_value digits)) (form_at (drop offset text))
     else None
 
-literal_of-read : (text : List ℕ) → literal_of text ≡ read_by (number_run text) (take (number_run text) text) (quote_place (number_run text) text) text
+literal_of-read : (text : List ℕ) → literal_of text ≡ read_by (number_run text) (take (number_run text) text) (quote_offset (number_run text) text) text
 unfolding literal_of read_by
 literal_of-read text = refl
 
-read_by-some : (n place : ℕ) (digits text : List ℕ) → 0 < n → nat_lt (decimal_value digits) 2147483648 ≡ true → read_by n digits place text ≡ meaning (Some (decimal_value digits)) (form_at (drop place text))
+read_by-some : (n offset : ℕ) (digits text : List ℕ) → 0 < n → nat_lt (decimal_value digits) 2147483648 ≡ true → read_by n digits offset text ≡ meaning (Some (decimal_value digits)) (form_at (drop offset text))
 unfolding read_by
-read_by-some n place digits text some small =
+read_by-some n offset digits text some small =
     let other : eqb n 0 ≡ false = false_from_ne_true (eqb n 0) (λ e. let same : n ≡ 0 = eqb-true n 0 e in absurd (omega arith)) in
     rw (other, small) refl
 
-sized_reads : (n : ℕ) (bytes : List ℕ) → n ≡ number_run bytes → 0 < n → nat_lt (decimal_value (take n bytes)) 2147483648 ≡ true → ReadsBehind (Some (decimal_value (take n bytes))) (quote_place n bytes) bytes
+sized_reads : (n : ℕ) (bytes : List ℕ) → n ≡ number_run bytes → 0 < n → nat_lt (decimal_value (take n bytes)) 2147483648 ≡ true → ReadsBehind (Some (decimal_value (take n bytes))) (quote_offset n bytes) bytes
 sized_reads n bytes is some small len less =
     let cut : List ℕ = take len bytes in
     let blanks : ℕ = blank_run (drop n bytes) in
@@ -273,65 +213,12 @@ sized_reads n bytes is some small len less =
     let within : number_run bytes ≤ len = omega (arith, is) in
     let same_run : number_run cut ≡ n = run_cut is_number_byte len bytes within ∙ sym is in
     let tail : drop n cut ≡ take m (drop n bytes) = ap (λ l. drop n (take l bytes)) sum ∙ drop-take n m bytes in
-    let same_place : quote_place n cut ≡ quote_place n bytes = ap (λ (bs : List ℕ). n + blank_run bs) tail ∙ ap (λ k. n + k) (run_cut is_blank m (drop n bytes) enough) in
+    let same_offset : quote_offset n cut ≡ quote_offset n bytes = ap (λ (bs : List ℕ). n + blank_run bs) tail ∙ ap (λ k. n + k) (run_cut is_blank m (drop n bytes) enough) in
     literal_of-read cut
-    ∙ ap (λ k. read_by k (take k cut) (quote_place k cut) cut) same_run
-    ∙ ap (λ (digits : List ℕ). read_by n digits (quote_place n cut) cut) (take_cut n len bytes long)
-    ∙ ap (λ place. read_by n (take n bytes) place cut) same_place
-    ∙ read_by-some n (quote_place n bytes) (take n bytes) cut some small
-
-exponent_says : (shape : TokenKind) (len : ℕ) (bytes : List ℕ) → Meant (Some shape) len (take len bytes) → Says bytes (exponent_at shape len bytes)
-unfolding exponent_at
-exponent_says shape len bytes meant =
-    either bytes (nat_lt 0 (exponent_len (drop len bytes))) (Ok (record { kind = Some kind.Exponent; len = len + exponent_len (drop len bytes) })) (Ok (record { kind = Some shape; len = len })) (λ _. tt) (λ _. meant)
-
-whole_says : (n : ℕ) (bytes : List ℕ) → n ≡ number_run bytes → 0 < n → Says bytes (whole_at n bytes)
-unfolding whole_at
-whole_says n bytes is some =
-    let value : ℕ = decimal_value (take n bytes) in
-    let place : ℕ = quote_place n bytes in
-    let based : Found = literal_at (Some value) place bytes in
-    let other : Found = exponent_at kind.Number n bytes in
-    either bytes (not (nat_lt value 2147483648)) (Err fault.BadNumber) (if eqb (first (drop place bytes)) 39 then based else other)
-    (λ _. tt)
-    (λ h.
-    let small : nat_lt value 2147483648 ≡ true = not-false (nat_lt value 2147483648) h in
-    either bytes (eqb (first (drop place bytes)) 39) based other
-    (λ _. literal_with_says (Some value) place bytes (form_at (drop place bytes)) refl (sized_reads n bytes is some small))
-    (λ _. exponent_says kind.Number n bytes (ltb-true value 2147483648 small)))
-
-number_says : (bytes : List ℕ) → is_ascii_digit (first bytes) ≡ true → Says bytes (number_at bytes)
-unfolding number_at
-number_says bytes digit =
-    either bytes (nat_lt 0 (decimal_len bytes)) (exponent_at kind.Decimal (decimal_len bytes) bytes) (whole_at (number_run bytes) bytes)
-    (λ _. exponent_says kind.Decimal (decimal_len bytes) bytes tt)
-    (λ _. whole_says (number_run bytes) bytes refl (number_run_some bytes digit))
-
-plain_says : (bytes : List ℕ) → Says bytes (plain_at bytes)
-unfolding plain_at
-plain_says bytes =
-    let byte : ℕ = first bytes in
-    let mark : Found = mark_at bytes in
-    let literal : Found = if eqb byte 39 then literal_at None 0 bytes else mark in
-    let directive : Found = if eqb byte 96 then directive_at bytes else literal in
-    let escaped : Found = if eqb byte 92 then escaped_at bytes else directive in
-    let quote : Found = if eqb byte 34 then quote_at bytes else escaped in
-    let opening : Found = if eqb byte 40 then open_at bytes else quote in
-    let slash : Found = if eqb byte 47 then slash_at (Ok (record { kind = Some kind.Mark; len = 1 })) bytes else opening in
-    let number : Found = if is_ascii_digit byte then number_at bytes else slash in
-    let name : Found = if is_letter byte then name_at bytes else number in
-    either bytes (is_blank byte) (Ok (record { kind = None; len = blank_run bytes })) name (λ _. tt) (λ _.
-    either bytes (is_letter byte) (name_at bytes) number (name_says bytes) (λ _.
-    either bytes (is_ascii_digit byte) (number_at bytes) slash (number_says bytes) (λ _.
-    either bytes (eqb byte 47) (slash_at (Ok (record { kind = Some kind.Mark; len = 1 })) bytes) opening
-    (λ e. slash_says (Ok (record { kind = Some kind.Mark; len = 1 })) bytes (one_mark bytes 47 (eqb-true byte 47 e) refl)) (λ _.
-    either bytes (eqb byte 40) (open_at bytes) quote (λ e. open_says bytes (eqb-true byte 40 e)) (λ _.
-    either bytes (eqb byte 34) (quote_at bytes) escaped (λ _. quote_says bytes) (λ _.
-    either bytes (eqb byte 92) (escaped_at bytes) directive (λ e. escaped_says bytes (eqb-true byte 92 e)) (λ _.
-    either bytes (eqb byte 96) (directive_at bytes) literal (λ _. directive_says bytes) (λ _.
-    either bytes (eqb byte 39) (literal_at None 0 bytes) mark
-    (λ e. literal_with_says None 0 bytes (form_at bytes) refl (plain_reads bytes (eqb-true byte 39 e))) (λ _.
-    mark_says bytes)))))))))
+    ∙ ap (λ k. read_by k (take k cut) (quote_offset k cut) cut) same_run
+    ∙ ap (λ (digits : List ℕ). read_by n digits (quote_offset n cut) cut) (take_cut n len bytes long)
+    ∙ ap (λ offset. read_by n (take n bytes) offset cut) same_offset
+    ∙ read_by-some n (quote_offset n bytes) (take n bytes) cut some small
 
 pub endtable_is_reserved : is_reserved (codes "endtable") ≡ true
 unfolding is_reserved reserved grammar_words words_of
@@ -343,20 +230,31 @@ table_end_is_reserved bytes is =
     let same : same_name (take 8 bytes) (codes "endtable") ≡ true = (and_parts (same_name (take 8 bytes) (codes "endtable")) (not (is_name_byte (first (drop 8 bytes)))) is).0 in
     ap (λ (name : List ℕ). is_reserved name) ((bytes_eq-Decides (take 8 bytes) (codes "endtable")).0 same) ∙ endtable_is_reserved
 
-row_says : (bytes : List ℕ) → Says bytes (row_at bytes)
-unfolding row_at
-row_says bytes =
-    let byte : ℕ = first bytes in
-    let word : Found = if is_table_end bytes then Ok (record { kind = Some kind.Word; len = 8 }) else Err fault.BadByte in
-    let slash : Found = if eqb byte 47 then slash_at (Err fault.BadByte) bytes else word in
-    let symbol : Found = if is_symbol byte then Ok (record { kind = Some kind.Symbol; len = 1 }) else slash in
-    either bytes (is_blank byte) (Ok (record { kind = None; len = blank_run bytes })) symbol (λ _. tt) (λ _.
-    either bytes (is_symbol byte) (Ok (record { kind = Some kind.Symbol; len = 1 })) slash
-    (λ h. (refl, ap is_symbol (first_cut 0 1 bytes (omega arith)) ∙ h)) (λ _.
-    either bytes (eqb byte 47) (slash_at (Err fault.BadByte) bytes) word (λ _. slash_says (Err fault.BadByte) bytes tt) (λ _.
-    either bytes (is_table_end bytes) (Ok (record { kind = Some kind.Word; len = 8 })) (Err fault.BadByte) (table_end_is_reserved bytes) (λ _. tt))))
+-- what begins with a digit
+number_says : (bytes : List ℕ) (found : Found) → is_ascii_digit (first bytes) ≡ true → NumberCase bytes found → Says bytes found
+number_says bytes found digit (case.refused wrong) = tt
+number_says bytes found digit (case.number plain small none) = small
+number_says bytes found digit (case.decimal some none) = tt
+number_says bytes found digit (case.exponent len is some) = tt
+number_says bytes found digit (case.sized form none small quote is h) =
+    based_says (Some (decimal_value (take (number_run bytes) bytes))) (quote_offset (number_run bytes) bytes) bytes form is h (sized_reads (number_run bytes) bytes refl (number_run_some bytes digit) small)
+
+says : (bytes : List ℕ) (found : Found) → Case bytes found → Says bytes found
+says bytes found (case.wrong other) = tt
+says bytes found (case.blanks blank) = tt
+says bytes found (case.line_comment is) = tt
+says bytes found (case.comment len begins is) = tt
+says bytes found (case.attribute len begins is) = tt
+says bytes found (case.word letter reserved) = reserved
+says bytes found (case.name letter other) = name_says bytes letter
+says bytes found (case.escaped is some) = escaped_says bytes is some
+says bytes found (case.directive is letter) = tt
+says bytes found (case.text len is end) = tt
+says bytes found (case.digits other digit of_number) = number_says bytes other digit of_number
+says bytes found (case.unsized form quote is h) = based_says None 0 bytes form is h (plain_reads bytes quote)
+says bytes found (case.mark visible other) = (refl, ap is_visible (first_cut 0 1 bytes (omega arith)) ∙ visible)
+says bytes found (case.symbol is) = (refl, ap is_symbol (first_cut 0 1 bytes (omega arith)) ∙ is)
+says bytes found (case.table_end is) = table_end_is_reserved bytes is
 
 pub place_says : (table : Bool) (bytes : List ℕ) → Says bytes (place_at table bytes)
-unfolding place_at
-place_says true bytes = row_says bytes
-place_says false bytes = plain_says bytes
+place_says table bytes = says bytes (place_at table bytes) (place_case table bytes)

@@ -1,8 +1,9 @@
 -- What is found reaches as far as each form of a token does.
-use Rattle.std.proofs.Common.{◌≡◌, ℕ, zero, suc, ◌+◌, ◌≤◌, ◌<◌, Bool, true, false, not, ◌&&◌, ◌||◌, eqb, leb, nat_lt, List, [], ◌∷◌, ◌++◌, length, take, drop, if◌then◌else◌, ◌⊎◌, refl, sym, ap, subst, ◌∙◌, arith, inl, inr, append_assoc, length-append}
-use Rattle.std.proofs.lemmas.Bool.{cases_Bool, true≢false, or_cases, or_parts, and_parts, not-true, false_from_ne_true, eqb-true, eq-eqb, ne_eqb, leb-true, ltb-true, ltb-false, lt-ltb}
+use Rattle.std.proofs.Common.{◌≡◌, ℕ, zero, suc, ◌+◌, ◌≤◌, ◌<◌, Bool, true, false, not, ◌&&◌, ◌||◌, eqb, leb, nat_lt, List, [], ◌∷◌, ◌++◌, length, drop, if◌then◌else◌, ◌⊎◌, refl, sym, ap, subst, ◌∙◌, arith, inl, inr, append_assoc, length-append}
+use Rattle.std.proofs.lemmas.Bool.{cases_Bool, true≢false, or_cases, or_parts, and_parts, not-true, false_from_ne_true, eqb-true, eq-eqb, ne_eqb, leb-true, lt-ltb}
 use Rattle.std.proofs.lemmas.List.{drop-drop}
 use Rattle.std.proofs.Math.Seq.{drop-append_seam, drop-append-add}
+use Rattle.std.proofs.lemmas.Option.{none-some}
 use Rattle.std.specs.Prelude.{Option, Some, None, Ok, Err}
 use Rattle.std.specs.List.{prefix_len, list_all}
 use Rattle.std.specs.Int.{is_in_range}
@@ -15,21 +16,19 @@ use Rattle.v_lexer.specs.declared.fault.FaultKind.TheVariants as fault
 use Rattle.v_lexer.specs.declared.literals.Base.{Base}
 use Rattle.v_lexer.specs.Bytes.{first, plus, is_letter, is_name_byte, is_number_byte, is_literal_byte, is_blank, is_visible, name_run, number_run, digit_run, literal_run, blank_run, visible_run}
 use Rattle.v_lexer.specs.Quoted.{quote_end, text_len}
-use Rattle.v_lexer.specs.Numbers.{decimal_value, decimal_len, sign_len, exponent_len}
+use Rattle.v_lexer.specs.Numbers.{decimal_len, sign_len, exponent_len}
 use Rattle.v_lexer.specs.Literals.{Form, form_at, form_after, base_of, signed_len, holds}
-use Rattle.v_lexer.specs.Places.{Found, ended, quote_at, escaped_at, directive_at, name_at, literal_with, literal_at, exponent_at, quote_place, whole_at, number_at, plain_at, place_at}
+use Rattle.v_lexer.specs.Places.{Found, ended, quote_at, escaped_at, directive_at, name_at, quote_offset, number_at, plain_at, place_at}
 use Rattle.v_lexer.specs.Reading.{Stands}
 use Rattle.v_lexer.specs.Forms.{IsDigits, IsWord, IsEscaped, IsNumber, IsDecimal, IsExponent, IsUnsized, IsSized, IsInside, IsText, IsDirective, IsFormOf, IsLongest}
+use Rattle.v_lexer.proofs.Cases.{NumberCase, IsPlain, has_quote, either, literal_case, number_case}
+use Rattle.v_lexer.proofs.Cases as case
 use Rattle.v_lexer.proofs.Cuts.{formed, form_at-formed, form_with-some, and_then-some}
 
 -- what is found has this many bytes or more
 abbrev Reaches : ℕ → Found → Type 0
 Reaches n (Ok piece) = n ≤ piece.len
 Reaches n (Err wrong) = Unit {0}
-
-either : (n : ℕ) (b : Bool) (x y : Found) → (b ≡ true → Reaches n x) → (b ≡ false → Reaches n y) → Reaches n (if b then x else y)
-either n true x y f g = f refl
-either n false x y f g = g refl
 
 -- runs
 run_over : (p : ℕ → Bool) (xs ys : List ℕ) → list_all p xs ≡ true → prefix_len p (xs ++ ys) ≡ length xs + prefix_len p ys
@@ -116,13 +115,13 @@ escaped_reaches : (name others : List ℕ) → list_all is_visible name ≡ true
 unfolding plain_at escaped_at
 escaped_reaches name others visible =
     let run : ℕ = visible_run (name ++ others) in
-    either (1 + length name) (nat_lt 0 run) (Ok (record { kind = Some kind.Name; len = 1 + run })) (Err fault.BadByte) (λ _. omega (arith, run_over is_visible name others visible)) (λ _. tt)
+    either (Reaches (1 + length name)) (nat_lt 0 run) (Ok (record { kind = Some kind.Name; len = 1 + run })) (Err fault.BadByte) (λ _. omega (arith, run_over is_visible name others visible)) (λ _. tt)
 
 directive_reaches : (name others : List ℕ) → IsWord name → Reaches (1 + length name) (plain_at (96 ∷ (name ++ others)))
 unfolding plain_at directive_at
 directive_reaches name others word =
     let run : ℕ = name_run (name ++ others) in
-    either (1 + length name) (is_letter (first (name ++ others))) (Ok (record { kind = Some kind.Directive; len = 1 + run })) (Err fault.BadByte) (λ _. omega (arith, run_over is_name_byte name others word.1)) (λ _. tt)
+    either (Reaches (1 + length name)) (is_letter (first (name ++ others))) (Ok (record { kind = Some kind.Directive; len = 1 + run })) (Err fault.BadByte) (λ _. omega (arith, run_over is_name_byte name others word.1)) (λ _. tt)
 
 -- a text in quotes
 abbrev Has : ℕ → Option ℕ → Type 0
@@ -168,55 +167,29 @@ text_reaches inside others closed =
     (plus_has (length inside + 1) (quote_end 34 (inside ++ (34 ∷ others))) (quote_has 34 inside others closed))
 
 -- numbers
-exponent_reaches : (n : ℕ) (shape : TokenKind) (len : ℕ) (bytes : List ℕ) → n ≤ len + exponent_len (drop len bytes) → Reaches n (exponent_at shape len bytes)
-unfolding exponent_at
-exponent_reaches n shape len bytes le =
-    let more : ℕ = exponent_len (drop len bytes) in
-    either n (nat_lt 0 more) (Ok (record { kind = Some kind.Exponent; len = len + more })) (Ok (record { kind = Some shape; len = len })) (λ _. le)
-    (λ e. omega (arith, ltb-false 0 more e, le))
+-- what begins with a digit has so many bytes where its plain numbers, its decimals and its based numbers do
+abbrev PlainReaches : ℕ → List ℕ → Type 0
+PlainReaches n bytes = IsPlain bytes → n ≤ number_run bytes + exponent_len (drop (number_run bytes) bytes)
 
-literal_with_reaches : (n : ℕ) (size : Option ℕ) (place : ℕ) (found : Option Form) → ((form : Form) → found ≡ Some form → n ≤ place + form.len) → Reaches n (literal_with size place found)
-unfolding literal_with
-literal_with_reaches n size place None le = tt
-literal_with_reaches n size place (Some form) le =
-    either n (holds size form) (Ok (record { kind = Some kind.Based; len = place + form.len })) (Err fault.BadNumber) (λ _. le form refl) (λ _. tt)
+abbrev DecimalReaches : ℕ → List ℕ → Type 0
+DecimalReaches n bytes = 0 < decimal_len bytes → n ≤ decimal_len bytes + exponent_len (drop (decimal_len bytes) bytes)
 
--- what begins with a number, by whether a `'` comes behind it
-whole_reaches : (n len : ℕ) (bytes : List ℕ) → n ≤ len → Reaches n (whole_at len bytes)
-unfolding whole_at
-whole_reaches n len bytes le =
-    let value : ℕ = decimal_value (take len bytes) in
-    let place : ℕ = quote_place len bytes in
-    let based : Found = literal_at (Some value) place bytes in
-    let other : Found = exponent_at kind.Number len bytes in
-    either n (not (nat_lt value 2147483648)) (Err fault.BadNumber) (if eqb (first (drop place bytes)) 39 then based else other) (λ _. tt) (λ _.
-    either n (eqb (first (drop place bytes)) 39) based other
-    (λ _. literal_with_reaches n (Some value) place (form_at (drop place bytes)) (λ form _. omega (arith, le)))
-    (λ _. exponent_reaches n kind.Number len bytes (omega (arith, le))))
+abbrev SizedReaches : ℕ → List ℕ → Type 0
+SizedReaches n bytes = (form : Form) → decimal_len bytes ≡ 0 → has_quote bytes ≡ true → form_at (drop (quote_offset (number_run bytes) bytes) bytes) ≡ Some form → n ≤ quote_offset (number_run bytes) bytes + form.len
 
-whole_sized : (n len : ℕ) (bytes : List ℕ) → first (drop (quote_place len bytes) bytes) ≡ 39 → ((form : Form) → form_at (drop (quote_place len bytes) bytes) ≡ Some form → n ≤ quote_place len bytes + form.len) → Reaches n (whole_at len bytes)
-unfolding whole_at
-whole_sized n len bytes quote le =
-    let value : ℕ = decimal_value (take len bytes) in
-    let place : ℕ = quote_place len bytes in
-    let based : Found = literal_at (Some value) place bytes in
-    let other : Found = exponent_at kind.Number len bytes in
-    either n (not (nat_lt value 2147483648)) (Err fault.BadNumber) (if eqb (first (drop place bytes)) 39 then based else other) (λ _. tt) (λ _.
-    either n (eqb (first (drop place bytes)) 39) based other
-    (λ _. literal_with_reaches n (Some value) place (form_at (drop place bytes)) le)
-    (λ e. absurd (true≢false (sym (eq-eqb (first (drop place bytes)) 39 quote) ∙ e))))
+digits_reach : (n : ℕ) (bytes : List ℕ) (found : Found) → PlainReaches n bytes → DecimalReaches n bytes → SizedReaches n bytes → NumberCase bytes found → Reaches n found
+digits_reach n bytes found plain decimal sized (case.refused wrong) = tt
+digits_reach n bytes found plain decimal sized (case.number is small none) = omega (arith, plain is, none)
+digits_reach n bytes found plain decimal sized (case.decimal some none) = omega (arith, decimal some, none)
+digits_reach n bytes found plain decimal sized (case.exponent len (inl is) more) = subst (λ m. n ≤ m + exponent_len (drop m bytes)) (sym is.1) (plain is.0)
+digits_reach n bytes found plain decimal sized (case.exponent len (inr is) more) = subst (λ m. n ≤ m + exponent_len (drop m bytes)) (sym is.1) (decimal is.0)
+digits_reach n bytes found plain decimal sized (case.sized form none small quote is holds) = sized form none quote is
 
-whole_exponent : (n len : ℕ) (bytes : List ℕ) → eqb (first (drop (quote_place len bytes) bytes)) 39 ≡ false → n ≤ len + exponent_len (drop len bytes) → Reaches n (whole_at len bytes)
-unfolding whole_at
-whole_exponent n len bytes none le =
-    let value : ℕ = decimal_value (take len bytes) in
-    let place : ℕ = quote_place len bytes in
-    let based : Found = literal_at (Some value) place bytes in
-    let other : Found = exponent_at kind.Number len bytes in
-    either n (not (nat_lt value 2147483648)) (Err fault.BadNumber) (if eqb (first (drop place bytes)) 39 then based else other) (λ _. tt) (λ _.
-    either n (eqb (first (drop place bytes)) 39) based other (λ e. absurd (true≢false (sym e ∙ none))) (λ _. exponent_reaches n kind.Number len bytes le))
+digit_reaches : (n : ℕ) (bytes : List ℕ) → is_ascii_digit (first bytes) ≡ true → PlainReaches n bytes → DecimalReaches n bytes → SizedReaches n bytes → Reaches n (plain_at bytes)
+digit_reaches n bytes digit plain decimal sized =
+    subst (λ (found : Found). Reaches n found) (sym (at_digit bytes digit)) (digits_reach n bytes (number_at bytes) plain decimal sized (number_case bytes))
 
--- a decimal is longer than the number at its place
+-- a decimal is longer than the number at its offset
 point_over : (point : Bool) (run d number : ℕ) → (point ≡ true → number ≤ d) → 0 < (if point then d + 1 + run else 0) → number ≤ (if point then d + 1 + run else 0)
 point_over true run d number le some = omega (arith, le refl)
 point_over false run d number le some = absurd (omega arith)
@@ -230,16 +203,12 @@ decimal_over bytes some =
     (λ both. run_to is_number_byte d bytes (ap is_number_byte (eqb-true (first (drop d bytes)) 46 (and_parts (eqb (first (drop d bytes)) 46) (nat_lt 0 run) both).0))) some
 
 number_reaches : (front others : List ℕ) → IsNumber front → Reaches (length front) (plain_at (front ++ others))
-unfolding number_at
 number_reaches [] others number = absurd (true≢false (sym number.0))
 number_reaches (byte ∷ front) others number =
     let bytes : List ℕ = byte ∷ (front ++ others) in
     let n : ℕ = length (byte ∷ front) in
     let long : number_run bytes ≡ n + number_run others = run_over is_number_byte (byte ∷ front) others number.1 in
-    subst (λ (found : Found). Reaches n found) (sym (at_digit bytes number.0))
-    (either n (nat_lt 0 (decimal_len bytes)) (exponent_at kind.Decimal (decimal_len bytes) bytes) (whole_at (number_run bytes) bytes)
-    (λ e. exponent_reaches n kind.Decimal (decimal_len bytes) bytes (omega (arith, long, decimal_over bytes (ltb-true 0 (decimal_len bytes) e))))
-    (λ _. whole_reaches n (number_run bytes) bytes (omega (arith, long))))
+    digit_reaches n bytes number.0 (λ _. omega (arith, long)) (λ some. omega (arith, long, decimal_over bytes some)) (λ form none quote is. omega (arith, long))
 
 -- the length of a decimal, by its digits, what is behind them, and the digits behind that
 decimal_by : ℕ → ℕ → ℕ → ℕ
@@ -274,21 +243,14 @@ decimal_is whole rest all some =
 digits_over : (digits others : List ℕ) → IsDigits digits → (0 < digit_run (digits ++ others)) × (length digits ≤ digit_run (digits ++ others))
 digits_over digits others is = let long : digit_run (digits ++ others) ≡ length digits + digit_run others = run_over is_ascii_digit digits others is.1 in (omega (arith, long, is.0), omega (arith, long))
 
-at_decimal : (whole rest : List ℕ) → IsDigits whole → plain_at (whole ++ rest) ≡ number_at (whole ++ rest)
-at_decimal whole rest digits =
-    at_digit (whole ++ rest) (ap is_ascii_digit (first_front whole rest digits.0) ∙ all_first is_ascii_digit whole digits.0 digits.1)
-
 -- a decimal, and an exponent that begins with one
 decimal_at : (n : ℕ) (whole rest : List ℕ) → IsDigits whole → 0 < digit_run rest
     → n ≤ length whole + 1 + digit_run rest + exponent_len (drop (length whole + 1 + digit_run rest) (whole ++ (46 ∷ rest))) → Reaches n (plain_at (whole ++ (46 ∷ rest)))
-unfolding number_at
 decimal_at n whole rest digits some le =
     let bytes : List ℕ = whole ++ (46 ∷ rest) in
     let len : decimal_len bytes ≡ length whole + 1 + digit_run rest = decimal_is whole rest digits.1 some in
-    subst (λ (found : Found). Reaches n found) (sym (at_decimal whole (46 ∷ rest) digits))
-    (either n (nat_lt 0 (decimal_len bytes)) (exponent_at kind.Decimal (decimal_len bytes) bytes) (whole_at (number_run bytes) bytes)
-    (λ _. exponent_reaches n kind.Decimal (decimal_len bytes) bytes (subst (λ m. n ≤ m + exponent_len (drop m bytes)) (sym len) le))
-    (λ e. let none : decimal_len bytes ≤ 0 = ltb-false 0 (decimal_len bytes) e in absurd (omega (arith, len))))
+    let digit : is_ascii_digit (first bytes) ≡ true = ap is_ascii_digit (first_front whole (46 ∷ rest) digits.0) ∙ all_first is_ascii_digit whole digits.0 digits.1 in
+    digit_reaches n bytes digit (λ plain. absurd (omega (arith, plain.0, len))) (λ _. subst (λ m. n ≤ m + exponent_len (drop m bytes)) (sym len) le) (λ form none quote is. absurd (omega (arith, none, len)))
 
 decimal_reaches : (whole part others : List ℕ) → IsDigits whole → IsDigits part → Reaches (length whole + (1 + length part)) (plain_at (whole ++ (46 ∷ (part ++ others))))
 decimal_reaches whole part others before behind =
@@ -312,22 +274,18 @@ no_point (byte ∷ front) rest all digit point =
     line b (inl d) none = absurd (true≢false (sym d ∙ none))
     line b (inr e) none = ap (λ n. eqb n 46) (eqb-true b 95 e)
 
--- what begins with a number behind which a byte stands that goes on with neither a number nor a decimal
-number_at-whole : (n : ℕ) (front rest : List ℕ) → IsNumber front → is_number_byte (first rest) ≡ false → eqb (first rest) 46 ≡ false
-    → Reaches n (whole_at (length front) (front ++ rest)) → Reaches n (plain_at (front ++ rest))
-unfolding number_at
-number_at-whole n [] rest number stops point reaches = absurd (true≢false (sym number.0))
-number_at-whole n (byte ∷ front) rest number stops point reaches =
+-- a number behind which a byte stands that goes on with neither a number nor a decimal
+number_ends : (front rest : List ℕ) → IsNumber front → is_number_byte (first rest) ≡ false → eqb (first rest) 46 ≡ false
+    → (is_ascii_digit (first (front ++ rest)) ≡ true) × (number_run (front ++ rest) ≡ length front) × (decimal_len (front ++ rest) ≡ 0)
+number_ends [] rest number stops point = absurd (true≢false (sym number.0))
+number_ends (byte ∷ front) rest number stops point =
     let bytes : List ℕ = byte ∷ (front ++ rest) in
-    let len : number_run bytes ≡ length (byte ∷ front) = run_over is_number_byte (byte ∷ front) rest number.1 ∙ (let none : number_run rest ≡ 0 = run_stops is_number_byte rest stops in omega (arith, none)) in
-    let none : decimal_len bytes ≡ 0 = decimal_len-by bytes ∙ decimal_by-none (digit_run bytes) (first (drop (digit_run bytes) bytes)) (digit_run (drop (digit_run bytes + 1) bytes)) (no_point (byte ∷ front) rest number.1 (no_digit (first rest) stops) point) in
-    subst (λ (found : Found). Reaches n found) (sym (at_digit bytes number.0))
-    (either n (nat_lt 0 (decimal_len bytes)) (exponent_at kind.Decimal (decimal_len bytes) bytes) (whole_at (number_run bytes) bytes)
-    (λ e. let some : 0 < decimal_len bytes = ltb-true 0 (decimal_len bytes) e in absurd (omega (arith, none)))
-    (λ _. subst (λ m. Reaches n (whole_at m bytes)) (sym len) reaches))
-  where
-    no_digit : (b : ℕ) → is_number_byte b ≡ false → is_ascii_digit b ≡ false
-    no_digit b h = (or_parts (is_ascii_digit b) (eqb b 95) h).0
+    let no_digit : is_ascii_digit (first rest) ≡ false = (or_parts (is_ascii_digit (first rest)) (eqb (first rest) 95) stops).0 in
+    let none : number_run rest ≡ 0 = run_stops is_number_byte rest stops in (
+      number.0,
+      run_over is_number_byte (byte ∷ front) rest number.1 ∙ omega (arith, none),
+      decimal_len-by bytes ∙ decimal_by-none (digit_run bytes) (first (drop (digit_run bytes) bytes)) (digit_run (drop (digit_run bytes + 1) bytes)) (no_point (byte ∷ front) rest number.1 no_digit point),
+    )
 
 -- an exponent from its `e` on
 no_sign : (rest : List ℕ) → is_ascii_digit (first rest) ≡ true → sign_len rest ≡ 0
@@ -379,14 +337,14 @@ e_kinds letter is =
 number_exponent : (n : ℕ) (front : List ℕ) (letter : ℕ) (rest : List ℕ) → IsNumber front → (eqb letter 101 || eqb letter 69) ≡ true → n ≤ length front + exponent_len (letter ∷ rest) → Reaches n (plain_at (front ++ (letter ∷ rest)))
 number_exponent n front letter rest number is le =
     let bytes : List ℕ = front ++ (letter ∷ rest) in
-    let len : ℕ = length front in
     let kinds : (is_number_byte letter ≡ false) × (eqb letter 46 ≡ false) × (is_blank letter ≡ false) × (eqb letter 39 ≡ false) × (is_ascii_digit letter ≡ false) = e_kinds letter is in
-    let here : drop len bytes ≡ letter ∷ rest = drop-append_seam front (letter ∷ rest) in
-    let blanks : blank_run (drop len bytes) ≡ 0 = ap (λ (bs : List ℕ). blank_run bs) here ∙ run_stops is_blank (letter ∷ rest) kinds.2 in
-    let place : quote_place len bytes ≡ len = omega (arith, blanks) in
-    let none : eqb (first (drop (quote_place len bytes) bytes)) 39 ≡ false = ap (λ m. eqb (first (drop m bytes)) 39) place ∙ ap (λ (bs : List ℕ). eqb (first bs) 39) here ∙ kinds.3 in
-    number_at-whole n front (letter ∷ rest) number kinds.0 kinds.1
-    (whole_exponent n len bytes none (subst (λ (bs : List ℕ). n ≤ len + exponent_len bs) (sym here) le))
+    let ends : (is_ascii_digit (first bytes) ≡ true) × (number_run bytes ≡ length front) × (decimal_len bytes ≡ 0) = number_ends front (letter ∷ rest) number kinds.0 kinds.1 in
+    let here : drop (number_run bytes) bytes ≡ letter ∷ rest = ap (λ m. drop m bytes) ends.1 ∙ drop-append_seam front (letter ∷ rest) in
+    let blanks : blank_run (drop (number_run bytes) bytes) ≡ 0 = ap (λ (bs : List ℕ). blank_run bs) here ∙ run_stops is_blank (letter ∷ rest) kinds.2 in
+    let offset : quote_offset (number_run bytes) bytes ≡ number_run bytes = omega (arith, blanks) in
+    let no_quote : has_quote bytes ≡ false = ap (λ m. eqb (first (drop m bytes)) 39) offset ∙ ap (λ (bs : List ℕ). eqb (first bs) 39) here ∙ kinds.3 in
+    let same : exponent_len (drop (number_run bytes) bytes) ≡ exponent_len (letter ∷ rest) = ap exponent_len here in
+    digit_reaches n bytes ends.0 (λ _. omega (arith, ends.1, same, le)) (λ some. absurd (omega (arith, ends.2, some))) (λ form none quote is. absurd (true≢false (sym quote ∙ no_quote)))
 
 decimal_exponent : (n : ℕ) (whole part : List ℕ) (letter : ℕ) (rest : List ℕ) → IsDigits whole → IsDigits part → (eqb letter 101 || eqb letter 69) ≡ true
     → n ≤ length whole + (1 + length part) + exponent_len (letter ∷ rest) → Reaches n (plain_at (whole ++ (46 ∷ (part ++ (letter ∷ rest)))))
@@ -408,15 +366,15 @@ formed_len : (s : ℕ) (blanks digits others bytes : List ℕ) (form : Form) →
     → formed s bytes ≡ Some form → 1 + s + 1 + (length blanks + length digits) ≤ form.len
 unfolding formed
 formed_len s blanks digits others bytes form tail are_blank some are_digits is =
-    let place : ℕ = 1 + s in
+    let offset : ℕ = 1 + s in
     let parts : (base : Base) × (base_of (first (drop (1 + s) bytes)) ≡ Some base) × (form_after (eqb s 1) (1 + s) bytes base ≡ Some form) = and_then-some (base_of (first (drop (1 + s) bytes))) (form_after (eqb s 1) (1 + s) bytes) form is in
     let rest : List ℕ = digits ++ others in
     let literal_first : is_literal_byte (first rest) ≡ true = ap is_literal_byte (first_front digits others some) ∙ all_first is_literal_byte digits some are_digits in
     let no_blank : blank_run rest ≡ 0 = run_stops is_blank rest (blank_none is_literal_byte refl refl refl refl refl (first rest) literal_first) in
-    let blank_len : blank_run (drop (place + 1) bytes) ≡ length blanks = ap (λ (bs : List ℕ). blank_run bs) tail ∙ run_over is_blank blanks rest are_blank ∙ omega (arith, no_blank) in
-    let start : ℕ = place + 1 + blank_run (drop (place + 1) bytes) in
-    let start_is : start ≡ place + 1 + length blanks = omega (arith, blank_len) in
-    let here : drop start bytes ≡ rest = ap (λ n. drop n bytes) start_is ∙ sym (drop-drop (length blanks) (place + 1) bytes) ∙ ap (drop (length blanks)) tail ∙ drop-append_seam blanks rest in
+    let blank_len : blank_run (drop (offset + 1) bytes) ≡ length blanks = ap (λ (bs : List ℕ). blank_run bs) tail ∙ run_over is_blank blanks rest are_blank ∙ omega (arith, no_blank) in
+    let start : ℕ = offset + 1 + blank_run (drop (offset + 1) bytes) in
+    let start_is : start ≡ offset + 1 + length blanks = omega (arith, blank_len) in
+    let here : drop start bytes ≡ rest = ap (λ n. drop n bytes) start_is ∙ sym (drop-drop (length blanks) (offset + 1) bytes) ∙ ap (drop (length blanks)) tail ∙ drop-append_seam blanks rest in
     let run : literal_run (drop start bytes) ≡ length digits + literal_run others = ap (λ (bs : List ℕ). literal_run bs) here ∙ run_over is_literal_byte digits others are_digits in
     let long : (0 < literal_run (drop start bytes)) × (form.len ≡ start + literal_run (drop start bytes)) = form_with-some (eqb s 1) parts.0 start bytes form parts.2 in
     omega (arith, long.1, start_is, run)
@@ -425,16 +383,9 @@ no_base : (letter : ℕ) (base : Base) → base_of letter ≡ Some base → (eqb
 unfolding base_of
 no_base letter base is = false_from_ne_true (eqb letter 115 || eqb letter 83) (λ e.
     elim (or_cases (eqb letter 115) (eqb letter 83) e) [
-      | inl a ↦ none base (sym (ap base_of (eqb-true letter 115 a)) ∙ is)
-      | inr b ↦ none base (sym (ap base_of (eqb-true letter 83 b)) ∙ is)
+      | inl a ↦ none-some base (sym (ap base_of (eqb-true letter 115 a)) ∙ is)
+      | inr b ↦ none-some base (sym (ap base_of (eqb-true letter 83 b)) ∙ is)
     ])
-  where
-    has : Option Base → Bool
-    has None = false
-    has (Some b) = true
-
-    none : (b : Base) → None ≡ Some b → ⊥
-    none b e = true≢false (sym (ap has e))
 
 abbrev Longer : ℕ → List ℕ → Type 0
 Longer n bytes = (form : Form) → form_at bytes ≡ Some form → n ≤ form.len
@@ -474,7 +425,7 @@ unsized_len sign letter base blanks digits others is_sign is_base are_blank some
 
 unsized_reaches : (n : ℕ) (tail : List ℕ) → Longer n (39 ∷ tail) → Reaches n (plain_at (39 ∷ tail))
 unfolding plain_at
-unsized_reaches n tail longer = literal_with_reaches n None 0 (form_at (39 ∷ tail)) (λ form is. omega (arith, longer form is))
+unsized_reaches n tail longer = literal_case (Reaches n) None 0 (form_at (39 ∷ tail)) tt (λ form is _. omega (arith, longer form is))
 
 blank_kinds : (byte : ℕ) → is_blank byte ≡ true → (is_number_byte byte ≡ false) × (eqb byte 46 ≡ false)
 blank_kinds byte blank = (
@@ -490,14 +441,16 @@ sized_reaches : (n m : ℕ) (size blanks tail : List ℕ) → IsNumber size → 
 sized_reaches n m size blanks tail is_size are_blank longer le =
     let rest : List ℕ = blanks ++ (39 ∷ tail) in
     let bytes : List ℕ = size ++ rest in
-    let len : ℕ = length size in
     let kinds : (is_number_byte (first rest) ≡ false) × (eqb (first rest) 46 ≡ false) = behind_size blanks tail are_blank in
+    let ends : (is_ascii_digit (first bytes) ≡ true) × (number_run bytes ≡ length size) × (decimal_len bytes ≡ 0) = number_ends size rest is_size kinds.0 kinds.1 in
     let none : blank_run (39 ∷ tail) ≡ 0 = run_stops is_blank (39 ∷ tail) refl in
-    let blank_len : blank_run (drop len bytes) ≡ length blanks = ap (λ (bs : List ℕ). blank_run bs) (drop-append_seam size rest) ∙ run_over is_blank blanks (39 ∷ tail) are_blank ∙ omega (arith, none) in
-    let place : quote_place len bytes ≡ len + length blanks = ap (λ k. len + k) blank_len in
-    let here : drop (quote_place len bytes) bytes ≡ 39 ∷ tail = ap (λ k. drop k bytes) place ∙ drop-append-add size rest (length blanks) ∙ drop-append_seam blanks (39 ∷ tail) in
-    number_at-whole n size rest is_size kinds.0 kinds.1
-    (whole_sized n len bytes (ap first here) (λ form is. omega (arith, le, place, longer form (ap form_at (sym here) ∙ is))))
+    let blank_len : blank_run (drop (number_run bytes) bytes) ≡ length blanks =
+    ap (λ k. blank_run (drop k bytes)) ends.1 ∙ ap (λ (bs : List ℕ). blank_run bs) (drop-append_seam size rest) ∙ run_over is_blank blanks (39 ∷ tail) are_blank ∙ omega (arith, none) in
+    let offset : quote_offset (number_run bytes) bytes ≡ length size + length blanks = omega (arith, ends.1, blank_len) in
+    let here : drop (quote_offset (number_run bytes) bytes) bytes ≡ 39 ∷ tail = ap (λ k. drop k bytes) offset ∙ drop-append-add size rest (length blanks) ∙ drop-append_seam blanks (39 ∷ tail) in
+    let is_quote : has_quote bytes ≡ true = ap (λ (bs : List ℕ). eqb (first bs) 39) here in
+    digit_reaches n bytes ends.0 (λ plain. absurd (true≢false (sym is_quote ∙ plain.1))) (λ some. absurd (omega (arith, ends.2, some)))
+    (λ form _ _ is. omega (arith, le, offset, longer form (ap form_at (sym here) ∙ is)))
 
 -- each form, with the bytes behind it
 carry : (n m : ℕ) (xs ys : List ℕ) → n ≡ m → xs ≡ ys → Reaches m (plain_at ys) → Reaches n (plain_at xs)

@@ -1,28 +1,28 @@
 -- What is found has the form of its kind.
 use Rattle.std.proofs.Common.{◌≡◌, ℕ, zero, suc, ◌+◌, ◌<◌, Bool, true, false, not, ◌&&◌, ◌||◌, eqb, nat_lt, List, [], ◌∷◌, ◌++◌, take, drop, if◌then◌else◌, ◌⊎◌, refl, sym, ap, subst, ◌∙◌, arith, inl, inr}
-use Rattle.std.proofs.lemmas.Bool.{cases_Bool, true≢false, or_cases, and_parts, not-true, not-false, not_from_false, false_from_ne_true, eqb-true, eqb-false, ltb-true}
+use Rattle.std.proofs.lemmas.Bool.{and_from, cases_Bool, true≢false, or_cases, and_parts, not-true, not-false, not_from_false, false_from_ne_true, eqb-true, eqb-false, ltb-true}
 use Rattle.std.proofs.lemmas.List.{drop-drop}
 use Rattle.std.proofs.lemmas.List.Folds.{length-prefix_len}
 use Rattle.std.proofs.lemmas.Slice.Eq.{bytes_eq-Decides}
 use Rattle.std.proofs.Math.Seq.{take-add}
+use Rattle.std.proofs.lemmas.Option.{none-some, same_Some}
 use Rattle.std.specs.Prelude.{Option, Some, None, Ok, Err, codes}
 use Rattle.std.specs.List.{prefix_len, list_all}
 use Rattle.std.specs.Char.{is_ascii_digit}
 use Rattle.name_table.specs.Names.{same_name}
 use Rattle.v_lexer.specs.declared.token.TokenKind.{TokenKind}
 use Rattle.v_lexer.specs.declared.token.TokenKind.TheVariants as kind
-use Rattle.v_lexer.specs.declared.fault.FaultKind.{FaultKind}
-use Rattle.v_lexer.specs.declared.fault.FaultKind.TheVariants as fault
 use Rattle.v_lexer.specs.declared.literals.Base.{Base}
-use Rattle.v_lexer.specs.Bytes.{first, begins, plus, is_letter, is_name_byte, is_number_byte, is_literal_byte, is_blank, is_visible, name_run, number_run, digit_run, literal_run, blank_run, visible_run, line_run}
-use Rattle.v_lexer.specs.Quoted.{quote_end}
-use Rattle.v_lexer.specs.Gaps.{comment_len, attribute_len}
-use Rattle.v_lexer.specs.Numbers.{decimal_value, decimal_len, sign_len, exponent_head, exponent_len}
+use Rattle.v_lexer.specs.Bytes.{first, begins, plus, is_letter, is_name_byte, is_number_byte, is_literal_byte, is_blank, is_visible, name_run, number_run, digit_run, literal_run, blank_run, visible_run}
+use Rattle.v_lexer.specs.Quoted.{quote_end, text_len}
+use Rattle.v_lexer.specs.Numbers.{decimal_len, sign_len, exponent_head, exponent_len}
 use Rattle.v_lexer.specs.Literals.{Form, form_at, form_with, form_after, base_of, signed_len, holds}
 use Rattle.v_lexer.specs.Words.{is_reserved}
-use Rattle.v_lexer.specs.Places.{Found, ended, mark_at, slash_at, open_at, quote_at, escaped_at, directive_at, name_at, literal_with, literal_at, exponent_at, quote_place, whole_at, number_at, plain_at, symbols, is_symbol, is_table_end, row_at, place_at}
-use Rattle.v_lexer.specs.Forms.{IsDigits, IsWord, IsNumber, IsDecimal, IsExponent, IsUnsized, IsSized, IsInside, IsText, begins_other, IsMark, IsTableByte, IsFormOf}
+use Rattle.v_lexer.specs.Places.{Found, quote_offset, symbols, is_symbol, is_table_end, place_at}
+use Rattle.v_lexer.specs.Forms.{IsDigits, IsWord, IsEscaped, IsNumber, IsDecimal, IsExponent, IsUnsized, IsSized, IsInside, IsText, IsDirective, begins_other, IsMark, IsTableByte, IsFormOf}
 use Rattle.v_lexer.proofs.Fronts.{name_run_some, number_run_some}
+use Rattle.v_lexer.proofs.Cases.{Case, NumberCase, IsNumberLen, place_case}
+use Rattle.v_lexer.proofs.Cases as case
 use Rattle.v_lexer.proofs.Cuts.{first_cut, formed, form_at-formed, form_with-some, and_then-some}
 use Rattle.v_lexer.proofs.Meanings.{endtable_is_reserved}
 
@@ -36,27 +36,15 @@ abbrev pub Takes : List ℕ → Found → Type 0
 Takes bytes (Ok piece) = Shaped piece.kind (take piece.len bytes)
 Takes bytes (Err wrong) = Unit {0}
 
-either : (bytes : List ℕ) (b : Bool) (x y : Found) → (b ≡ true → Takes bytes x) → (b ≡ false → Takes bytes y) → Takes bytes (if b then x else y)
-either bytes true x y f g = f refl
-either bytes false x y f g = g refl
-
-gap_ended : (bytes : List ℕ) (wrong : FaultKind) (len : Option ℕ) → Takes bytes (ended None wrong len)
-gap_ended bytes wrong None = tt
-gap_ended bytes wrong (Some len) = tt
-
 -- runs
 run_all : (p : ℕ → Bool) (bytes : List ℕ) → list_all p (take (prefix_len p bytes) bytes) ≡ true
 run_all p [] = refl
 run_all p (byte ∷ bytes) =
     elim (cases_Bool (p byte)) [
       | inl e ↦ let one : 1 + prefix_len p bytes ≡ suc (prefix_len p bytes) = omega arith in
-          rw (e, one) (and_both (p byte) (list_all p (take (prefix_len p bytes) bytes)) e (run_all p bytes))
+          rw (e, one) (and_from (p byte) (list_all p (take (prefix_len p bytes) bytes)) e (run_all p bytes))
       | inr e ↦ rw e refl
     ]
-  where
-    and_both : (a b : Bool) → a ≡ true → b ≡ true → (a && b) ≡ true
-    and_both true b x y = y
-    and_both false b x y = x
 
 -- the first byte, and those behind it
 front_is : (n byte : ℕ) (bytes : List ℕ) → first bytes ≡ byte → 0 < byte → take (1 + n) bytes ≡ byte ∷ take n (drop 1 bytes)
@@ -75,59 +63,24 @@ mark_takes : (bytes : List ℕ) → is_visible (first bytes) ≡ true → not (b
 mark_takes bytes visible other =
     record { byte = first bytes; visible = visible; other = other; all = one_byte (first bytes) bytes refl (visible_some (first bytes) visible) }
 
--- at one byte
-mark_is : (byte : ℕ) (bytes : List ℕ) → first bytes ≡ byte → is_visible byte ≡ true → not (begins_other byte) ≡ true → IsMark (take 1 bytes)
-mark_is byte bytes is visible other = mark_takes bytes (ap is_visible is ∙ visible) (ap (λ b. not (begins_other b)) is ∙ other)
-
-mark_found : (bytes : List ℕ) → not (begins_other (first bytes)) ≡ true → Takes bytes (mark_at bytes)
-unfolding mark_at
-mark_found bytes other = either bytes (is_visible (first bytes)) (Ok (record { kind = Some kind.Mark; len = 1 })) (Err fault.BadByte) (λ visible. mark_takes bytes visible other) (λ _. tt)
-
-slash_found : (other : Found) (bytes : List ℕ) → Takes bytes other → Takes bytes (slash_at other bytes)
-unfolding slash_at
-slash_found other bytes takes =
-    either bytes (begins 47 47 bytes) (Ok (record { kind = None; len = line_run bytes })) (if begins 47 42 bytes then ended None fault.OpenComment (comment_len bytes) else other)
-    (λ _. tt)
-    (λ _. either bytes (begins 47 42 bytes) (ended None fault.OpenComment (comment_len bytes)) other (λ _. gap_ended bytes fault.OpenComment (comment_len bytes)) (λ _. takes))
-
-open_found : (bytes : List ℕ) → first bytes ≡ 40 → Takes bytes (open_at bytes)
-unfolding open_at
-open_found bytes is =
-    either bytes (begins 40 42 bytes && not (eqb (first (drop 2 bytes)) 41)) (ended None fault.OpenComment (attribute_len bytes)) (Ok (record { kind = Some kind.Mark; len = 1 }))
-    (λ _. gap_ended bytes fault.OpenComment (attribute_len bytes)) (λ _. mark_is 40 bytes is refl refl)
-
 -- names
 word_takes : (bytes : List ℕ) → is_letter (first bytes) ≡ true → IsWord (take (name_run bytes) bytes)
 word_takes bytes letter = (ap is_letter (first_cut 0 (name_run bytes) bytes (name_run_some bytes letter)) ∙ letter, run_all is_name_byte bytes)
 
-word_or_name : (b : Bool) (bytes : List ℕ) → b ≡ is_reserved bytes → IsWord bytes → Shaped (Some (if b then kind.Word else kind.Name)) bytes
-word_or_name true bytes is word = (word, sym is)
-word_or_name false bytes is word = inl (word, not_from_false (is_reserved bytes) (sym is))
-
-name_found : (bytes : List ℕ) → is_letter (first bytes) ≡ true → Takes bytes (name_at bytes)
-unfolding name_at
-name_found bytes letter = word_or_name (is_reserved (take (name_run bytes) bytes)) (take (name_run bytes) bytes) refl (word_takes bytes letter)
-
-escaped_found : (bytes : List ℕ) → first bytes ≡ 92 → Takes bytes (escaped_at bytes)
-unfolding escaped_at
-escaped_found bytes is =
+escaped_takes : (bytes : List ℕ) → first bytes ≡ 92 → 0 < visible_run (drop 1 bytes) → IsEscaped (take (1 + visible_run (drop 1 bytes)) bytes)
+escaped_takes bytes is some =
     let run : ℕ = visible_run (drop 1 bytes) in
-    either bytes (nat_lt 0 run) (Ok (record { kind = Some kind.Name; len = 1 + run })) (Err fault.BadByte)
-    (λ h. inr (record {
+    record {
       name = take run (drop 1 bytes);
-      some = omega (arith, length-prefix_len is_visible (drop 1 bytes), ltb-true 0 run h);
+      some = omega (arith, length-prefix_len is_visible (drop 1 bytes), some);
       visible = run_all is_visible (drop 1 bytes);
       all = front_is run 92 bytes is (omega arith);
-    }))
-    (λ _. tt)
+    }
 
-directive_found : (bytes : List ℕ) → first bytes ≡ 96 → Takes bytes (directive_at bytes)
-unfolding directive_at
-directive_found bytes is =
+directive_takes : (bytes : List ℕ) → first bytes ≡ 96 → is_letter (first (drop 1 bytes)) ≡ true → IsDirective (take (1 + name_run (drop 1 bytes)) bytes)
+directive_takes bytes is letter =
     let run : ℕ = name_run (drop 1 bytes) in
-    either bytes (is_letter (first (drop 1 bytes))) (Ok (record { kind = Some kind.Directive; len = 1 + run })) (Err fault.BadByte)
-    (λ letter. record { name = take run (drop 1 bytes); is_name = word_takes (drop 1 bytes) letter; all = front_is run 96 bytes is (omega arith) })
-    (λ _. tt)
+    record { name = take run (drop 1 bytes); is_name = word_takes (drop 1 bytes) letter; all = front_is run 96 bytes is (omega arith) }
 
 -- texts in quotes
 record Closes (before m : ℕ) (bytes : List ℕ) : Type 0 where
@@ -135,38 +88,25 @@ record Closes (before m : ℕ) (bytes : List ℕ) : Type 0 where
   closed : IsInside before inside
   all : take m bytes ≡ inside ++ (34 ∷ [])
 
-has_len : Option ℕ → Bool
-has_len None = false
-has_len (Some n) = true
-
-len_or : Option ℕ → ℕ
-len_or None = 0
-len_or (Some n) = n
-
-no_len : (n : ℕ) → None ≡ Some n → ⊥
-unfolding has_len
-no_len n e = true≢false (sym (ap has_len e))
-
 plus_of : (len : Option ℕ) (m : ℕ) → plus 1 len ≡ Some m → (n : ℕ) × (len ≡ Some n) × (m ≡ 1 + n)
-unfolding len_or
-plus_of None m is = absurd (no_len m is)
-plus_of (Some n) m is = (n, refl, sym (ap len_or is))
+plus_of None m is = absurd (none-some m is)
+plus_of (Some n) m is = (n, refl, sym (same_Some (1 + n) m is))
 
 closes_now : (before m : ℕ) (bytes : List ℕ) → ¬ (before ≡ 92) → 1 ≡ m → Closes before m (34 ∷ bytes)
 closes_now before m bytes other is = record { inside = []; closed = other; all = ap (λ k. take k (34 ∷ bytes)) (sym is) }
 
 quote_closes : (before m : ℕ) (bytes : List ℕ) → quote_end before bytes ≡ Some m → Closes before m bytes
-unfolding quote_end len_or
-quote_closes before m [] is = absurd (no_len m is)
+unfolding quote_end
+quote_closes before m [] is = absurd (none-some m is)
 quote_closes before m (byte ∷ bytes) is =
     elim (cases_Bool (eqb byte 10)) [
-      | inl e ↦ absurd (no_len m (rw e at is))
+      | inl e ↦ absurd (none-some m (rw e at is))
       | inr line ↦ elim (cases_Bool (eqb byte 34 && not (eqb before 92))) [
         | inl both ↦
             let parts : (eqb byte 34 ≡ true) × (not (eqb before 92) ≡ true) = and_parts (eqb byte 34) (not (eqb before 92)) both in
             let now : Some 1 ≡ Some m = rw (line, both) at is in
             subst (λ b. Closes before m (b ∷ bytes)) (sym (eqb-true byte 34 parts.0))
-            (closes_now before m bytes (eqb-false before 92 (not-true (eqb before 92) parts.1)) (ap len_or now))
+            (closes_now before m bytes (eqb-false before 92 (not-true (eqb before 92) parts.1)) (same_Some 1 m now))
         | inr not_both ↦
             let more : (n : ℕ) × (quote_end byte bytes ≡ Some n) × (m ≡ 1 + n) = plus_of (quote_end byte bytes) m (rw (line, not_both) at is) in
             let rest : Closes byte more.0 bytes = quote_closes byte more.0 bytes more.1 in
@@ -182,18 +122,15 @@ quote_closes before m (byte ∷ bytes) is =
     before_is : (b other : ℕ) → b ≡ 34 → (eqb b 34 && not (eqb other 92)) ≡ false → other ≡ 92
     before_is b other e h = eqb-true other 92 (not-false (eqb other 92) (rw e at h))
 
-text_takes : (bytes : List ℕ) (m : ℕ) → first bytes ≡ 34 → quote_end 34 (drop 1 bytes) ≡ Some m → IsText (take (1 + m) bytes)
-text_takes bytes m is end =
-    let closes : Closes 34 m (drop 1 bytes) = quote_closes 34 m (drop 1 bytes) end in
-    record { inside = closes.inside; closed = closes.closed; all = front_is m 34 bytes is (omega arith) ∙ ap (λ (bs : List ℕ). 34 ∷ bs) closes.all }
-
-quote_found : (bytes : List ℕ) → first bytes ≡ 34 → Takes bytes (quote_at bytes)
-unfolding quote_at
-quote_found bytes is = ends (quote_end 34 (drop 1 bytes)) refl
-  where
-    ends : (len : Option ℕ) → quote_end 34 (drop 1 bytes) ≡ len → Takes bytes (ended (Some kind.Text) fault.OpenString (plus 1 len))
-    ends None e = tt
-    ends (Some m) e = text_takes bytes m is e
+text_takes : (bytes : List ℕ) (len : ℕ) → first bytes ≡ 34 → text_len bytes ≡ Some len → IsText (take len bytes)
+text_takes bytes len is end =
+    let more : (n : ℕ) × (quote_end 34 (drop 1 bytes) ≡ Some n) × (len ≡ 1 + n) = plus_of (quote_end 34 (drop 1 bytes)) len end in
+    let closes : Closes 34 more.0 (drop 1 bytes) = quote_closes 34 more.0 (drop 1 bytes) more.1 in
+    record {
+      inside = closes.inside;
+      closed = closes.closed;
+      all = ap (λ n. take n bytes) more.2 ∙ front_is more.0 34 bytes is (omega arith) ∙ ap (λ (bs : List ℕ). 34 ∷ bs) closes.all;
+    }
 
 -- numbers
 number_takes : (bytes : List ℕ) → is_ascii_digit (first bytes) ≡ true → IsNumber (take (number_run bytes) bytes)
@@ -275,13 +212,6 @@ exponent_takes len bytes number more =
           ∙ ap (λ (bs : List ℕ). letter ∷ bs) (take-add s run (drop 1 tail) ∙ ap (λ (bs : List ℕ). take s (drop 1 tail) ++ take run bs) (drop-drop s 1 tail)));
     }
 
-exponent_found : (shape : TokenKind) (len : ℕ) (bytes : List ℕ) → IsFormOf shape (take len bytes) → IsNumber (take len bytes) ⊎ IsDecimal (take len bytes) → Takes bytes (exponent_at shape len bytes)
-unfolding exponent_at
-exponent_found shape len bytes form number =
-    let more : ℕ = exponent_len (drop len bytes) in
-    either bytes (nat_lt 0 more) (Ok (record { kind = Some kind.Exponent; len = len + more })) (Ok (record { kind = Some shape; len = len }))
-    (λ h. exponent_takes len bytes number (ltb-true 0 more h)) (λ _. form)
-
 -- based numbers
 base_sign : (bytes : List ℕ) → (take (signed_len bytes) bytes ≡ []) ⊎ ((take (signed_len bytes) bytes ≡ 115 ∷ []) ⊎ (take (signed_len bytes) bytes ≡ 83 ∷ []))
 base_sign bytes =
@@ -295,14 +225,7 @@ base_sign bytes =
 
 base_some : (letter : ℕ) (base : Base) → base_of letter ≡ Some base → 0 < letter
 unfolding base_of
-base_some zero base is = absurd (no_base base is)
-  where
-    has : Option Base → Bool
-    has None = false
-    has (Some b) = true
-
-    no_base : (b : Base) → None ≡ Some b → ⊥
-    no_base b e = true≢false (sym (ap has e))
+base_some zero base is = absurd (none-some base is)
 base_some (suc letter) base is = omega arith
 
 digits_first : (signed : Bool) (base : Base) (start : ℕ) (bytes : List ℕ) (form : Form) → form_with signed base start bytes ≡ Some form → eqb (first (drop start bytes)) 95 ≡ false
@@ -310,24 +233,20 @@ unfolding form_with
 digits_first signed base start bytes form is =
     false_from_ne_true (eqb (first (drop start bytes)) 95) (λ e. none (eqb (literal_run (drop start bytes)) 0) (rw e at is))
   where
-    has : Option Form → Bool
-    has None = false
-    has (Some f) = true
-
     none : (b : Bool) → (if b || true then None else Some (record { signed = signed; base = base; digits = take (literal_run (drop start bytes)) (drop start bytes); len = start + literal_run (drop start bytes) })) ≡ Some form → ⊥
-    none true e = true≢false (sym (ap has e))
-    none false e = true≢false (sym (ap has e))
+    none true e = none-some form e
+    none false e = none-some form e
 
 unsized_takes : (bytes : List ℕ) (form : Form) → first bytes ≡ 39 → form_at bytes ≡ Some form → IsUnsized (take form.len bytes)
 unfolding formed
 unsized_takes bytes form quote is =
     let s : ℕ = signed_len (drop 1 bytes) in
-    let place : ℕ = 1 + s in
+    let offset : ℕ = 1 + s in
     let made : formed s bytes ≡ Some form = sym (form_at-formed bytes) ∙ is in
     let parts : (base : Base) × (base_of (first (drop (1 + s) bytes)) ≡ Some base) × (form_after (eqb s 1) (1 + s) bytes base ≡ Some form) = and_then-some (base_of (first (drop (1 + s) bytes))) (form_after (eqb s 1) (1 + s) bytes) form made in
-    let letter : ℕ = first (drop place bytes) in
-    let b : ℕ = blank_run (drop (place + 1) bytes) in
-    let start : ℕ = place + 1 + b in
+    let letter : ℕ = first (drop offset bytes) in
+    let b : ℕ = blank_run (drop (offset + 1) bytes) in
+    let start : ℕ = offset + 1 + b in
     let rest : List ℕ = drop start bytes in
     let run : ℕ = literal_run rest in
     let long : (0 < literal_run (drop start bytes)) × (form.len ≡ start + literal_run (drop start bytes)) = form_with-some (eqb s 1) parts.0 start bytes form parts.2 in
@@ -337,95 +256,36 @@ unsized_takes bytes form quote is =
       sign = take s (drop 1 bytes);
       letter = letter;
       base = parts.0;
-      blanks = take b (drop (place + 1) bytes);
+      blanks = take b (drop (offset + 1) bytes);
       digits = take run rest;
       is_sign = base_sign (drop 1 bytes);
       is_base = parts.1;
-      are_blank = run_all is_blank (drop (place + 1) bytes);
+      are_blank = run_all is_blank (drop (offset + 1) bytes);
       some = omega (arith, long.0, length-prefix_len is_literal_byte rest);
       begins = not_from_false (eqb (first (take run rest)) 95) (ap (λ byte. eqb byte 95) (first_cut 0 run rest long.0) ∙ other);
       are_digits = run_all is_literal_byte rest;
       all = ap (λ n. take n bytes) sum ∙ front_is (s + (1 + (b + run))) 39 bytes quote (omega arith)
           ∙ ap (λ (bs : List ℕ). 39 ∷ bs)
           (take-add s (1 + (b + run)) (drop 1 bytes) ∙ ap (λ (bs : List ℕ). take s (drop 1 bytes) ++ bs)
-          (ap (λ (bs : List ℕ). take (1 + (b + run)) bs) (drop-drop s 1 bytes) ∙ front_is (b + run) letter (drop place bytes) refl (base_some letter parts.0 parts.1)
-          ∙ ap (λ (bs : List ℕ). letter ∷ take (b + run) bs) (drop-drop 1 place bytes)
-          ∙ ap (λ (bs : List ℕ). letter ∷ bs) (take-add b run (drop (place + 1) bytes) ∙ ap (λ (bs : List ℕ). take b (drop (place + 1) bytes) ++ take run bs) (drop-drop b (place + 1) bytes))));
+          (ap (λ (bs : List ℕ). take (1 + (b + run)) bs) (drop-drop s 1 bytes) ∙ front_is (b + run) letter (drop offset bytes) refl (base_some letter parts.0 parts.1)
+          ∙ ap (λ (bs : List ℕ). letter ∷ take (b + run) bs) (drop-drop 1 offset bytes)
+          ∙ ap (λ (bs : List ℕ). letter ∷ bs) (take-add b run (drop (offset + 1) bytes) ∙ ap (λ (bs : List ℕ). take b (drop (offset + 1) bytes) ++ take run bs) (drop-drop b (offset + 1) bytes))));
     }
 
-literal_with_found : (size : Option ℕ) (place : ℕ) (bytes : List ℕ) (found : Option Form) → form_at (drop place bytes) ≡ found
-    → ((form : Form) → form_at (drop place bytes) ≡ Some form → IsFormOf kind.Based (take (place + form.len) bytes)) → Takes bytes (literal_with size place found)
-unfolding literal_with
-literal_with_found size place bytes None is form_is = tt
-literal_with_found size place bytes (Some form) is form_is =
-    either bytes (holds size form) (Ok (record { kind = Some kind.Based; len = place + form.len })) (Err fault.BadNumber) (λ _. form_is form is) (λ _. tt)
-
-plain_literal : (bytes : List ℕ) → first bytes ≡ 39 → Takes bytes (literal_at None 0 bytes)
-plain_literal bytes quote =
-    literal_with_found None 0 bytes (form_at bytes) refl (λ form is.
-    let len : form.len ≡ 0 + form.len = omega arith in
-    inl (subst (λ n. IsUnsized (take n bytes)) len (unsized_takes bytes form quote is)))
-
-sized_takes : (n : ℕ) (bytes : List ℕ) (form : Form) → IsNumber (take n bytes) → first (drop (quote_place n bytes) bytes) ≡ 39 → form_at (drop (quote_place n bytes) bytes) ≡ Some form → IsSized (take (quote_place n bytes + form.len) bytes)
+sized_takes : (n : ℕ) (bytes : List ℕ) (form : Form) → IsNumber (take n bytes) → first (drop (quote_offset n bytes) bytes) ≡ 39 → form_at (drop (quote_offset n bytes) bytes) ≡ Some form → IsSized (take (quote_offset n bytes + form.len) bytes)
 sized_takes n bytes form number quote is =
     let b : ℕ = blank_run (drop n bytes) in
-    let sum : quote_place n bytes + form.len ≡ n + (b + form.len) = omega arith in
+    let sum : quote_offset n bytes + form.len ≡ n + (b + form.len) = omega arith in
     record {
       size = take n bytes;
       blanks = take b (drop n bytes);
-      rest = take form.len (drop (quote_place n bytes) bytes);
+      rest = take form.len (drop (quote_offset n bytes) bytes);
       is_size = number;
       are_blank = run_all is_blank (drop n bytes);
-      is_rest = unsized_takes (drop (quote_place n bytes) bytes) form quote is;
+      is_rest = unsized_takes (drop (quote_offset n bytes) bytes) form quote is;
       all = ap (λ m. take m bytes) sum ∙ take-add n (b + form.len) bytes
           ∙ ap (λ (bs : List ℕ). take n bytes ++ bs) (take-add b form.len (drop n bytes) ∙ ap (λ (bs : List ℕ). take b (drop n bytes) ++ take form.len bs) (drop-drop b n bytes));
     }
-
-whole_found : (n : ℕ) (bytes : List ℕ) → IsNumber (take n bytes) → Takes bytes (whole_at n bytes)
-unfolding whole_at
-whole_found n bytes number =
-    let value : ℕ = decimal_value (take n bytes) in
-    let place : ℕ = quote_place n bytes in
-    let based : Found = literal_at (Some value) place bytes in
-    let other : Found = exponent_at kind.Number n bytes in
-    either bytes (not (nat_lt value 2147483648)) (Err fault.BadNumber) (if eqb (first (drop place bytes)) 39 then based else other) (λ _. tt) (λ _.
-    either bytes (eqb (first (drop place bytes)) 39) based other
-    (λ e. literal_with_found (Some value) place bytes (form_at (drop place bytes)) refl (λ form is. inr (sized_takes n bytes form number (eqb-true (first (drop place bytes)) 39 e) is)))
-    (λ _. exponent_found kind.Number n bytes number (inl number)))
-
-number_found : (bytes : List ℕ) → is_ascii_digit (first bytes) ≡ true → Takes bytes (number_at bytes)
-unfolding number_at
-number_found bytes digit =
-    either bytes (nat_lt 0 (decimal_len bytes)) (exponent_at kind.Decimal (decimal_len bytes) bytes) (whole_at (number_run bytes) bytes)
-    (λ h. let decimal : IsDecimal (take (decimal_len bytes) bytes) = decimal_takes bytes digit (ltb-true 0 (decimal_len bytes) h) in exponent_found kind.Decimal (decimal_len bytes) bytes decimal (inr decimal))
-    (λ _. whole_found (number_run bytes) bytes (number_takes bytes digit))
-
-plain_found : (bytes : List ℕ) → Takes bytes (plain_at bytes)
-unfolding plain_at
-plain_found bytes =
-    let byte : ℕ = first bytes in
-    let one : Found = Ok (record { kind = Some kind.Mark; len = 1 }) in
-    let literal : Found = if eqb byte 39 then literal_at None 0 bytes else mark_at bytes in
-    let directive : Found = if eqb byte 96 then directive_at bytes else literal in
-    let escaped : Found = if eqb byte 92 then escaped_at bytes else directive in
-    let quote : Found = if eqb byte 34 then quote_at bytes else escaped in
-    let opening : Found = if eqb byte 40 then open_at bytes else quote in
-    let slash : Found = if eqb byte 47 then slash_at one bytes else opening in
-    let number : Found = if is_ascii_digit byte then number_at bytes else slash in
-    let name : Found = if is_letter byte then name_at bytes else number in
-    either bytes (is_blank byte) (Ok (record { kind = None; len = blank_run bytes })) name (λ _. tt) (λ _.
-    either bytes (is_letter byte) (name_at bytes) number (name_found bytes) (λ no_letter.
-    either bytes (is_ascii_digit byte) (number_at bytes) slash (number_found bytes) (λ no_digit.
-    either bytes (eqb byte 47) (slash_at one bytes) opening (λ e. slash_found one bytes (mark_is 47 bytes (eqb-true byte 47 e) refl refl)) (λ _.
-    either bytes (eqb byte 40) (open_at bytes) quote (λ e. open_found bytes (eqb-true byte 40 e)) (λ _.
-    either bytes (eqb byte 34) (quote_at bytes) escaped (λ e. quote_found bytes (eqb-true byte 34 e)) (λ no_quote.
-    either bytes (eqb byte 92) (escaped_at bytes) directive (λ e. escaped_found bytes (eqb-true byte 92 e)) (λ no_backslash.
-    either bytes (eqb byte 96) (directive_at bytes) literal (λ e. directive_found bytes (eqb-true byte 96 e)) (λ no_backquote.
-    either bytes (eqb byte 39) (literal_at None 0 bytes) (mark_at bytes) (λ e. plain_literal bytes (eqb-true byte 39 e)) (λ no_tick.
-    mark_found bytes (none_of byte no_letter no_digit no_quote no_backslash no_backquote no_tick))))))))))
-  where
-    none_of : (b : ℕ) → is_letter b ≡ false → is_ascii_digit b ≡ false → eqb b 34 ≡ false → eqb b 92 ≡ false → eqb b 96 ≡ false → eqb b 39 ≡ false → not (begins_other b) ≡ true
-    none_of b letter digit quote backslash backquote tick = rw (letter, digit, quote, backslash, backquote, tick) refl
 
 -- inside a table
 symbol_some : (byte : ℕ) → is_symbol byte ≡ true → 0 < byte
@@ -445,19 +305,37 @@ table_end_takes bytes is =
     let same : same_name (take 8 bytes) (codes "endtable") ≡ true = (and_parts (same_name (take 8 bytes) (codes "endtable")) (not (is_name_byte (first (drop 8 bytes)))) is).0 in
     subst (λ (bs : List ℕ). IsFormOf kind.Word bs) (sym ((bytes_eq-Decides (take 8 bytes) (codes "endtable")).0 same)) endtable_is_word
 
-row_found : (bytes : List ℕ) → Takes bytes (row_at bytes)
-unfolding row_at
-row_found bytes =
-    let byte : ℕ = first bytes in
-    let word : Found = if is_table_end bytes then Ok (record { kind = Some kind.Word; len = 8 }) else Err fault.BadByte in
-    let slash : Found = if eqb byte 47 then slash_at (Err fault.BadByte) bytes else word in
-    let symbol : Found = if is_symbol byte then Ok (record { kind = Some kind.Symbol; len = 1 }) else slash in
-    either bytes (is_blank byte) (Ok (record { kind = None; len = blank_run bytes })) symbol (λ _. tt) (λ _.
-    either bytes (is_symbol byte) (Ok (record { kind = Some kind.Symbol; len = 1 })) slash (symbol_takes bytes) (λ _.
-    either bytes (eqb byte 47) (slash_at (Err fault.BadByte) bytes) word (λ _. slash_found (Err fault.BadByte) bytes tt) (λ _.
-    either bytes (is_table_end bytes) (Ok (record { kind = Some kind.Word; len = 8 })) (Err fault.BadByte) (table_end_takes bytes) (λ _. tt))))
+-- what begins with a digit
+before_exponent : (bytes : List ℕ) (len : ℕ) → is_ascii_digit (first bytes) ≡ true → IsNumberLen bytes len → IsNumber (take len bytes) ⊎ IsDecimal (take len bytes)
+before_exponent bytes len digit (inl whole) = inl (subst (λ n. IsNumber (take n bytes)) (sym whole.1) (number_takes bytes digit))
+before_exponent bytes len digit (inr part) = inr (subst (λ n. IsDecimal (take n bytes)) (sym part.1) (decimal_takes bytes digit part.0))
+
+number_has_form : (bytes : List ℕ) (found : Found) → is_ascii_digit (first bytes) ≡ true → NumberCase bytes found → Takes bytes found
+number_has_form bytes found digit (case.refused wrong) = tt
+number_has_form bytes found digit (case.number plain small none) = number_takes bytes digit
+number_has_form bytes found digit (case.decimal some none) = decimal_takes bytes digit some
+number_has_form bytes found digit (case.exponent len is some) = exponent_takes len bytes (before_exponent bytes len digit is) some
+number_has_form bytes found digit (case.sized form none small quote is holds) =
+    inr (sized_takes (number_run bytes) bytes form (number_takes bytes digit) (eqb-true (first (drop (quote_offset (number_run bytes) bytes) bytes)) 39 quote) is)
+
+has_form : (bytes : List ℕ) (found : Found) → Case bytes found → Takes bytes found
+has_form bytes found (case.wrong other) = tt
+has_form bytes found (case.blanks blank) = tt
+has_form bytes found (case.line_comment is) = tt
+has_form bytes found (case.comment len begins is) = tt
+has_form bytes found (case.attribute len begins is) = tt
+has_form bytes found (case.word letter reserved) = (word_takes bytes letter, reserved)
+has_form bytes found (case.name letter other) = inl (word_takes bytes letter, not_from_false (is_reserved (take (name_run bytes) bytes)) other)
+has_form bytes found (case.escaped is some) = inr (escaped_takes bytes is some)
+has_form bytes found (case.directive is letter) = directive_takes bytes is letter
+has_form bytes found (case.text len is end) = text_takes bytes len is end
+has_form bytes found (case.digits other digit of_number) = number_has_form bytes other digit of_number
+has_form bytes found (case.unsized form quote is holds) =
+    let len : form.len ≡ 0 + form.len = omega arith in
+    inl (subst (λ n. IsUnsized (take n bytes)) len (unsized_takes bytes form quote is))
+has_form bytes found (case.mark visible other) = mark_takes bytes visible other
+has_form bytes found (case.symbol is) = symbol_takes bytes is
+has_form bytes found (case.table_end is) = table_end_takes bytes is
 
 pub place_takes : (table : Bool) (bytes : List ℕ) → Takes bytes (place_at table bytes)
-unfolding place_at
-place_takes true bytes = row_found bytes
-place_takes false bytes = plain_found bytes
+place_takes table bytes = has_form bytes (place_at table bytes) (place_case table bytes)

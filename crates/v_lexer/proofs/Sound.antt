@@ -1,4 +1,4 @@
--- The tokens of a text are sound, and what that gives at a place of their list.
+-- The tokens of a text are sound, and what that gives at an index of their list.
 use Rattle.std.proofs.Common.{◌≡◌, ℕ, zero, suc, ◌+◌, ◌-◌, ◌≤◌, ◌<◌, Bool, false, List, [], ◌∷◌, ◌++◌, length, get_or, take, drop, refl, sym, ap, subst, arith}
 use Rattle.std.specs.Prelude.{Option, Some, None, Result, Ok, Err, IfOk, slice_range}
 use Rattle.v_lexer.specs.declared.token.TokenKind.{TokenKind}
@@ -110,7 +110,7 @@ pub sound_rest : (text : List ℕ) (tokens : List Token) (d : Token) → AreSoun
 sound_rest text [] d sound other = absurd sound
 sound_rest text (token ∷ others) d sound other = sound.2 other
 
--- by its place in the list: each token is sound
+-- by its index in the list: each token is sound
 pub sound_at : (text : List ℕ) (tokens : List Token) (i : ℕ) (d : Token) → AreSound text tokens → i < length tokens → IsSound text (get_or tokens i d)
 sound_at text [] i d sound less = absurd sound
 sound_at text (token ∷ others) zero d sound less = sound.0

@@ -1,6 +1,7 @@
 -- A `"` that begins no text in quotes: neither does one after it on its line.
 use Rattle.std.proofs.Common.{◌≡◌, ℕ, zero, suc, ◌+◌, ◌-◌, ◌<◌, Bool, true, false, not, ◌&&◌, ◌||◌, eqb, List, [], ◌∷◌, drop, if◌then◌else◌, refl, sym, ap, ◌∙◌, arith, inl, inr}
 use Rattle.std.proofs.lemmas.Bool.{cases_Bool, true≢false, and_parts, not-true, eqb-true}
+use Rattle.std.proofs.lemmas.Option.{none-some, same_Some}
 use Rattle.std.specs.Prelude.{Option, Some, None}
 use Rattle.std.specs.Option.{option_map_or}
 use Rattle.v_lexer.specs.Bytes.{first, plus}
@@ -11,20 +12,12 @@ use Rattle.v_lexer.specs.Gaps.{quoted_after}
 abbrev pub IsStray : List ℕ → Type 0
 IsStray rest = (before : ℕ) × (quote_end before rest ≡ None)
 
-has_len : Option ℕ → Bool
-has_len None = false
-has_len (Some n) = true
-
-none_some : (n : ℕ) → Some n ≡ None → ⊥
-unfolding has_len
-none_some n is = true≢false (ap has_len is)
-
 plus_is_none : (n : ℕ) (len : Option ℕ) → plus n len ≡ None → len ≡ None
 plus_is_none n None is = refl
-plus_is_none n (Some m) is = absurd (none_some (n + m) is)
+plus_is_none n (Some m) is = absurd (none-some (n + m) (sym is))
 
 ends_or_not : (ends : Bool) (len : Option ℕ) → (if ends then Some 1 else plus 1 len) ≡ None → len ≡ None
-ends_or_not true len is = absurd (none_some 1 is)
+ends_or_not true len is = absurd (none-some 1 (sym is))
 ends_or_not false len is = plus_is_none 1 len is
 
 in_line : (line : Bool) (len : Option ℕ) → line ≡ false → (if line then None else len) ≡ None → len ≡ None
@@ -51,17 +44,17 @@ stray_quoted (byte ∷ bytes) stray =
     ]
 
 some_len : (len : Option ℕ) (n : ℕ) → plus 1 len ≡ Some n → 0 < n
-some_len None n is = absurd (none_some n (sym is))
-some_len (Some m) n is = let e : 1 + m ≡ n = ap (λ (o : Option ℕ). option_map_or (λ k. k) o 0) is in omega arith
+some_len None n is = absurd (none-some n is)
+some_len (Some m) n is = let e : 1 + m ≡ n = same_Some (1 + m) n is in omega arith
 
 either_len : (line ends : Bool) (len : Option ℕ) (n : ℕ) → (if line then None else if ends then Some 1 else plus 1 len) ≡ Some n → 0 < n
-either_len true ends len n is = absurd (none_some n (sym is))
-either_len false true len n is = let e : 1 ≡ n = ap (λ (o : Option ℕ). option_map_or (λ k. k) o 0) is in omega arith
+either_len true ends len n is = absurd (none-some n is)
+either_len false true len n is = let e : 1 ≡ n = same_Some 1 n is in omega arith
 either_len false false len n is = some_len len n is
 
 quote_end-some : (before n : ℕ) (bytes : List ℕ) → quote_end before bytes ≡ Some n → 0 < n
 unfolding quote_end
-quote_end-some before n [] is = absurd (none_some n (sym is))
+quote_end-some before n [] is = absurd (none-some n is)
 quote_end-some before n (byte ∷ bytes) is = either_len (eqb byte 10) (eqb byte 34 && not (eqb before 92)) (quote_end byte bytes) n is
 
 -- where none is passed over no text ends

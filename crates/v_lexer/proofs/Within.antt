@@ -1,5 +1,5 @@
--- What is found at a place has a byte or more, and lies in the text.
-use Rattle.std.proofs.Common.{◌≡◌, ℕ, zero, suc, ◌+◌, ◌-◌, ◌≤◌, ◌<◌, Bool, true, false, not, ◌&&◌, ◌||◌, eqb, nat_lt, List, [], ◌∷◌, length, take, drop, if◌then◌else◌, refl, sym, ap, subst, ◌∙◌, arith, length-drop}
+-- What is found at an offset has a byte or more, and lies in the text.
+use Rattle.std.proofs.Common.{◌≡◌, ℕ, zero, suc, ◌+◌, ◌-◌, ◌≤◌, ◌<◌, Bool, true, false, not, ◌&&◌, ◌||◌, eqb, nat_lt, List, [], ◌∷◌, length, take, drop, if◌then◌else◌, inl, inr, refl, sym, ap, subst, ◌∙◌, arith, length-drop}
 use Rattle.std.proofs.lemmas.Bool.{and_parts, eqb-true, ltb-true}
 use Rattle.std.proofs.lemmas.List.{length-take}
 use Rattle.std.proofs.lemmas.List.Sums.{prefix_len-le-length}
@@ -8,28 +8,22 @@ use Rattle.std.specs.Prelude.{Option, Some, None, Ok, Err, codes}
 use Rattle.std.specs.List.{prefix_len}
 use Rattle.std.specs.Char.{is_ascii_digit}
 use Rattle.name_table.specs.Names.{same_name}
-use Rattle.v_lexer.specs.declared.token.TokenKind.{TokenKind}
-use Rattle.v_lexer.specs.declared.token.TokenKind.TheVariants as kind
 use Rattle.v_lexer.specs.declared.token.Piece.{Piece}
-use Rattle.v_lexer.specs.declared.fault.FaultKind.{FaultKind}
-use Rattle.v_lexer.specs.declared.fault.FaultKind.TheVariants as fault
-use Rattle.v_lexer.specs.Bytes.{first, begins, plus, is_letter, is_name_byte, is_literal_byte, is_blank, is_visible, name_run, number_run, digit_run, literal_run, blank_run, visible_run, line_run}
-use Rattle.v_lexer.specs.Quoted.{quote_end, text_len}
-use Rattle.v_lexer.specs.Gaps.{comment_end, comment_len, quoted_after, attribute_end, attribute_len}
-use Rattle.v_lexer.specs.Numbers.{decimal_value, decimal_len, exponent_head, exponent_len}
+use Rattle.v_lexer.specs.Bytes.{first, begins, plus, is_name_byte, is_number_byte, is_literal_byte, is_blank, is_visible, number_run, digit_run, literal_run, blank_run, line_run}
+use Rattle.v_lexer.specs.Quoted.{quote_end}
+use Rattle.v_lexer.specs.Gaps.{comment_end, quoted_after, attribute_end}
+use Rattle.v_lexer.specs.Numbers.{decimal_len, exponent_head, exponent_len}
 use Rattle.v_lexer.specs.Literals.{Form, base_of, signed_len, form_after, form_at, holds}
-use Rattle.v_lexer.specs.Places.{Found, ended, mark_at, slash_at, open_at, quote_at, escaped_at, directive_at, name_at, literal_with, literal_at, exponent_at, quote_place, whole_at, number_at, plain_at, is_symbol, is_table_end, row_at, place_at}
+use Rattle.v_lexer.specs.Places.{Found, quote_offset, is_table_end, place_at}
 use Rattle.v_lexer.proofs.Fronts.{name_run_some, number_run_some, blank_run_some}
+use Rattle.v_lexer.proofs.Cases.{Case, NumberCase, IsNumberLen, place_case}
+use Rattle.v_lexer.proofs.Cases as case
 use Rattle.v_lexer.proofs.Cuts.{form_at-formed, formed, form_with-some, and_then-some}
 
 -- what is found has one byte or more, and so many at most
 abbrev Within : ℕ → Found → Type 0
 Within n (Ok piece) = (0 < piece.len) × (piece.len ≤ n)
 Within n (Err wrong) = Unit {0}
-
-either : (n : ℕ) (b : Bool) (x y : Found) → (b ≡ true → Within n x) → (b ≡ false → Within n y) → Within n (if b then x else y)
-either n true x y f g = f refl
-either n false x y f g = g refl
 
 -- a length is one or more, and so much at most
 abbrev Fits : ℕ → Option ℕ → Type 0
@@ -44,9 +38,8 @@ plus_fits : (k n m : ℕ) (len : Option ℕ) → k + m ≤ n → Fits m len → 
 plus_fits k n m None le fits = tt
 plus_fits k n m (Some l) le fits = (omega (arith, fits.0), omega (arith, fits.1, le))
 
-ended_within : (n : ℕ) (shape : Option TokenKind) (wrong : FaultKind) (len : Option ℕ) → Fits n len → Within n (ended shape wrong len)
-ended_within n shape wrong None fits = tt
-ended_within n shape wrong (Some m) fits = fits
+fits_some : (n m : ℕ) (len : Option ℕ) → len ≡ Some m → Fits n len → (0 < m) × (m ≤ n)
+fits_some n m len is fits = subst (λ (l : Option ℕ). Fits n l) is fits
 
 -- a byte that isn't 0 stands in the text
 reaches : (k : ℕ) (bytes : List ℕ) → 0 < first (drop k bytes) → k < length bytes
@@ -96,67 +89,20 @@ attribute_fits zero (byte ∷ bytes) =
     either_fits n (begins 42 41 (byte ∷ bytes)) (Some 2) (plus 1 (attribute_end q bytes)) (λ e. (omega arith, begins_long 42 41 (byte ∷ bytes) (omega arith) e)) (λ _.
     plus_fits 1 n (length bytes) (attribute_end q bytes) le (attribute_fits q bytes))
 
--- ---- what begins with a mark
-
-mark_within : (bytes : List ℕ) → 0 < length bytes → Within (length bytes) (mark_at bytes)
-unfolding mark_at
-mark_within bytes some =
-    either (length bytes) (is_visible (first bytes)) (Ok (record { kind = Some kind.Mark; len = 1 })) (Err fault.BadByte) (λ _. (omega arith, omega (arith, some))) (λ _. tt)
+-- a run at the front is as long as the text at most
+front_within : (p : ℕ → Bool) (bytes : List ℕ) → 0 < prefix_len p bytes → (0 < prefix_len p bytes) × (prefix_len p bytes ≤ length bytes)
+front_within p bytes some = (some, prefix_len-le-length p bytes)
 
 -- a comment that a line ends has one byte or more
 line_some : (bytes : List ℕ) → first bytes ≡ 47 → 0 < line_run bytes
 line_some [] is = absurd (omega (arith, is))
 line_some (byte ∷ bytes) is = rw is (omega arith)
 
-slash_within : (other : Found) (bytes : List ℕ) → first bytes ≡ 47 → Within (length bytes) other → Within (length bytes) (slash_at other bytes)
-unfolding slash_at
-slash_within other bytes is within =
-    let n : ℕ = length bytes in
-    let comment : Found = ended None fault.OpenComment (comment_len bytes) in
-    either n (begins 47 47 bytes) (Ok (record { kind = None; len = line_run bytes })) (if begins 47 42 bytes then comment else other)
-    (λ _. (line_some bytes is, prefix_len-le-length _ bytes)) (λ _.
-    either n (begins 47 42 bytes) comment other
-    (λ e. let long : 2 ≤ n = begins_long 47 42 bytes (omega arith) e in
-    let le : 2 + length (drop 2 bytes) ≤ n = omega (arith, long, length-drop 2 bytes) in
-    ended_within n None fault.OpenComment (comment_len bytes) (plus_fits 2 n (length (drop 2 bytes)) (comment_end (drop 2 bytes)) le (comment_fits (drop 2 bytes))))
-    (λ _. within))
-
-open_within : (bytes : List ℕ) → 0 < length bytes → Within (length bytes) (open_at bytes)
-unfolding open_at
-open_within bytes some =
-    let n : ℕ = length bytes in
-    let other : Bool = not (eqb (first (drop 2 bytes)) 41) in
-    either n (begins 40 42 bytes && other) (ended None fault.OpenComment (attribute_len bytes)) (Ok (record { kind = Some kind.Mark; len = 1 }))
-    (λ e. let long : 2 ≤ n = begins_long 40 42 bytes (omega arith) (and_parts (begins 40 42 bytes) other e).0 in
-    let le : 2 + length (drop 2 bytes) ≤ n = omega (arith, long, length-drop 2 bytes) in
-    ended_within n None fault.OpenComment (attribute_len bytes) (plus_fits 2 n (length (drop 2 bytes)) (attribute_end 0 (drop 2 bytes)) le (attribute_fits 0 (drop 2 bytes))))
-    (λ _. (omega arith, omega (arith, some)))
-
-quote_within : (bytes : List ℕ) → 0 < length bytes → Within (length bytes) (quote_at bytes)
-unfolding quote_at
-quote_within bytes some =
-    let le : 1 + length (drop 1 bytes) ≤ length bytes = omega (arith, some, length-drop 1 bytes) in
-    ended_within (length bytes) (Some kind.Text) fault.OpenString (text_len bytes) (plus_fits 1 (length bytes) (length (drop 1 bytes)) (quote_end 34 (drop 1 bytes)) le (quote_fits 34 (drop 1 bytes)))
-
--- ---- names
-
-escaped_within : (bytes : List ℕ) → Within (length bytes) (escaped_at bytes)
-unfolding escaped_at
-escaped_within bytes =
-    let run : ℕ = visible_run (drop 1 bytes) in
-    either (length bytes) (nat_lt 0 run) (Ok (record { kind = Some kind.Name; len = 1 + run })) (Err fault.BadByte)
-    (λ e. (omega arith, run_within is_visible 1 bytes (ltb-true 0 run e))) (λ _. tt)
-
-directive_within : (bytes : List ℕ) → Within (length bytes) (directive_at bytes)
-unfolding directive_at
-directive_within bytes =
-    let run : ℕ = name_run (drop 1 bytes) in
-    either (length bytes) (is_letter (first (drop 1 bytes))) (Ok (record { kind = Some kind.Directive; len = 1 + run })) (Err fault.BadByte)
-    (λ e. (omega arith, run_within is_name_byte 1 bytes (name_run_some (drop 1 bytes) e))) (λ _. tt)
-
-name_within : (bytes : List ℕ) → is_letter (first bytes) ≡ true → Within (length bytes) (name_at bytes)
-unfolding name_at
-name_within bytes letter = (name_run_some bytes letter, prefix_len-le-length is_name_byte bytes)
+-- what has an end behind its first bytes
+behind_within : (k : ℕ) (bytes : List ℕ) (end : Option ℕ) (len : ℕ) → k ≤ length bytes → Fits (length (drop k bytes)) end → plus k end ≡ Some len → (0 < len) × (len ≤ length bytes)
+behind_within k bytes end len long fits is =
+    let le : k + length (drop k bytes) ≤ length bytes = omega (arith, long, length-drop k bytes) in
+    fits_some (length bytes) len (plus k end) is (plus_fits k (length bytes) (length (drop k bytes)) end le fits)
 
 -- ---- numbers
 
@@ -189,69 +135,6 @@ form_fits bytes form is =
     let long : (0 < literal_run (drop start bytes)) × (form.len ≡ start + literal_run (drop start bytes)) = form_with-some (eqb s 1) parts.0 start bytes form parts.2 in
     (omega (arith, long.0, long.1), omega (arith, long.1, run_within is_literal_byte start bytes long.0))
 
-literal_within : (size : Option ℕ) (place : ℕ) (bytes : List ℕ) (found : Option Form) → form_at (drop place bytes) ≡ found → Within (length bytes) (literal_with size place found)
-unfolding literal_with
-literal_within size place bytes None is = tt
-literal_within size place bytes (Some form) is =
-    let fits : (0 < form.len) × (form.len ≤ length (drop place bytes)) = form_fits (drop place bytes) form is in
-    either (length bytes) (holds size form) (Ok (record { kind = Some kind.Based; len = place + form.len })) (Err fault.BadNumber)
-    (λ _. (omega (arith, fits.0), omega (arith, fits.0, fits.1, length-drop place bytes))) (λ _. tt)
-
-exponent_within : (shape : TokenKind) (len : ℕ) (bytes : List ℕ) → 0 < len → len ≤ length bytes → Within (length bytes) (exponent_at shape len bytes)
-unfolding exponent_at
-exponent_within shape len bytes some le =
-    let more : ℕ = exponent_len (drop len bytes) in
-    either (length bytes) (nat_lt 0 more) (Ok (record { kind = Some kind.Exponent; len = len + more })) (Ok (record { kind = Some shape; len = len }))
-    (λ _. (omega (arith, some), omega (arith, le, exponent_le (drop len bytes), length-drop len bytes)))
-    (λ _. (some, le))
-
-whole_within : (len : ℕ) (bytes : List ℕ) → 0 < len → len ≤ length bytes → Within (length bytes) (whole_at len bytes)
-unfolding whole_at
-whole_within len bytes some le =
-    let value : ℕ = decimal_value (take len bytes) in
-    let place : ℕ = quote_place len bytes in
-    let based : Found = literal_at (Some value) place bytes in
-    let other : Found = exponent_at kind.Number len bytes in
-    either (length bytes) (not (nat_lt value 2147483648)) (Err fault.BadNumber) (if eqb (first (drop place bytes)) 39 then based else other) (λ _. tt) (λ _.
-    either (length bytes) (eqb (first (drop place bytes)) 39) based other
-    (λ _. literal_within (Some value) place bytes (form_at (drop place bytes)) refl)
-    (λ _. exponent_within kind.Number len bytes some le))
-
-number_within : (bytes : List ℕ) → is_ascii_digit (first bytes) ≡ true → Within (length bytes) (number_at bytes)
-unfolding number_at
-number_within bytes digit =
-    either (length bytes) (nat_lt 0 (decimal_len bytes)) (exponent_at kind.Decimal (decimal_len bytes) bytes) (whole_at (number_run bytes) bytes)
-    (λ e. exponent_within kind.Decimal (decimal_len bytes) bytes (ltb-true 0 (decimal_len bytes) e) (decimal_le bytes))
-    (λ _. whole_within (number_run bytes) bytes (number_run_some bytes digit) (prefix_len-le-length _ bytes))
-
--- ---- places
-
-plain_within : (bytes : List ℕ) → 0 < length bytes → Within (length bytes) (plain_at bytes)
-unfolding plain_at
-plain_within bytes some =
-    let n : ℕ = length bytes in
-    let byte : ℕ = first bytes in
-    let one : Found = Ok (record { kind = Some kind.Mark; len = 1 }) in
-    let mark : Found = mark_at bytes in
-    let literal : Found = if eqb byte 39 then literal_at None 0 bytes else mark in
-    let directive : Found = if eqb byte 96 then directive_at bytes else literal in
-    let escaped : Found = if eqb byte 92 then escaped_at bytes else directive in
-    let quote : Found = if eqb byte 34 then quote_at bytes else escaped in
-    let opening : Found = if eqb byte 40 then open_at bytes else quote in
-    let slash : Found = if eqb byte 47 then slash_at one bytes else opening in
-    let number : Found = if is_ascii_digit byte then number_at bytes else slash in
-    let name : Found = if is_letter byte then name_at bytes else number in
-    either n (is_blank byte) (Ok (record { kind = None; len = blank_run bytes })) name (λ e. (blank_run_some bytes e, prefix_len-le-length is_blank bytes)) (λ _.
-    either n (is_letter byte) (name_at bytes) number (name_within bytes) (λ _.
-    either n (is_ascii_digit byte) (number_at bytes) slash (number_within bytes) (λ _.
-    either n (eqb byte 47) (slash_at one bytes) opening (λ e. slash_within one bytes (eqb-true byte 47 e) (omega arith, omega (arith, some))) (λ _.
-    either n (eqb byte 40) (open_at bytes) quote (λ _. open_within bytes some) (λ _.
-    either n (eqb byte 34) (quote_at bytes) escaped (λ _. quote_within bytes some) (λ _.
-    either n (eqb byte 92) (escaped_at bytes) directive (λ _. escaped_within bytes) (λ _.
-    either n (eqb byte 96) (directive_at bytes) literal (λ _. directive_within bytes) (λ _.
-    either n (eqb byte 39) (literal_at None 0 bytes) mark (λ _. literal_within None 0 bytes (form_at bytes) refl) (λ _.
-    mark_within bytes some)))))))))
-
 table_end_long : (bytes : List ℕ) → is_table_end bytes ≡ true → 8 ≤ length bytes
 unfolding is_table_end
 table_end_long bytes is =
@@ -259,24 +142,47 @@ table_end_long bytes is =
     let eight : length (take 8 bytes) ≡ 8 = ap length ((bytes_eq-Decides (take 8 bytes) (codes "endtable")).0 same) in
     omega (arith, eight, length-take 8 bytes)
 
-row_within : (bytes : List ℕ) → 0 < length bytes → Within (length bytes) (row_at bytes)
-unfolding row_at
-row_within bytes some =
-    let n : ℕ = length bytes in
-    let byte : ℕ = first bytes in
-    let word : Found = if is_table_end bytes then Ok (record { kind = Some kind.Word; len = 8 }) else Err fault.BadByte in
-    let slash : Found = if eqb byte 47 then slash_at (Err fault.BadByte) bytes else word in
-    let symbol : Found = if is_symbol byte then Ok (record { kind = Some kind.Symbol; len = 1 }) else slash in
-    either n (is_blank byte) (Ok (record { kind = None; len = blank_run bytes })) symbol (λ e. (blank_run_some bytes e, prefix_len-le-length is_blank bytes)) (λ _.
-    either n (is_symbol byte) (Ok (record { kind = Some kind.Symbol; len = 1 })) slash (λ _. (omega arith, omega (arith, some))) (λ _.
-    either n (eqb byte 47) (slash_at (Err fault.BadByte) bytes) word (λ e. slash_within (Err fault.BadByte) bytes (eqb-true byte 47 e) tt) (λ _.
-    either n (is_table_end bytes) (Ok (record { kind = Some kind.Word; len = 8 })) (Err fault.BadByte) (λ e. (omega arith, table_end_long bytes e)) (λ _. tt))))
+-- one byte or more of a text that isn't empty
+one_within : (bytes : List ℕ) → 0 < length bytes → (0 < 1) × (1 ≤ length bytes)
+one_within bytes some = (omega arith, omega (arith, some))
 
-place_found : (table : Bool) (bytes : List ℕ) → 0 < length bytes → Within (length bytes) (place_at table bytes)
-unfolding place_at
-place_found true bytes some = row_within bytes some
-place_found false bytes some = plain_within bytes some
+based_within : (offset : ℕ) (bytes : List ℕ) (form : Form) → form_at (drop offset bytes) ≡ Some form → (0 < offset + form.len) × (offset + form.len ≤ length bytes)
+based_within offset bytes form is =
+    let fits : (0 < form.len) × (form.len ≤ length (drop offset bytes)) = form_fits (drop offset bytes) form is in
+    (omega (arith, fits.0), omega (arith, fits.0, fits.1, length-drop offset bytes))
+
+number_le : (bytes : List ℕ) (len : ℕ) → IsNumberLen bytes len → len ≤ length bytes
+number_le bytes len (inl whole) = omega (arith, whole.1, prefix_len-le-length is_number_byte bytes)
+number_le bytes len (inr part) = omega (arith, part.1, decimal_le bytes)
+
+number_within : (bytes : List ℕ) (found : Found) → is_ascii_digit (first bytes) ≡ true → NumberCase bytes found → Within (length bytes) found
+number_within bytes found digit (case.refused wrong) = tt
+number_within bytes found digit (case.number plain small none) = front_within is_number_byte bytes (number_run_some bytes digit)
+number_within bytes found digit (case.decimal some none) = (some, decimal_le bytes)
+number_within bytes found digit (case.exponent len is some) =
+    (omega (arith, some), omega (arith, number_le bytes len is, exponent_le (drop len bytes), length-drop len bytes))
+number_within bytes found digit (case.sized form none small quote is holds) = based_within (quote_offset (number_run bytes) bytes) bytes form is
+
+found_within : (bytes : List ℕ) (found : Found) → 0 < length bytes → Case bytes found → Within (length bytes) found
+found_within bytes found some (case.wrong other) = tt
+found_within bytes found some (case.blanks blank) = front_within is_blank bytes (blank_run_some bytes blank)
+found_within bytes found some (case.line_comment is) = front_within _ bytes (line_some bytes is)
+found_within bytes found some (case.comment len begins is) =
+    behind_within 2 bytes (comment_end (drop 2 bytes)) len (begins_long 47 42 bytes (omega arith) begins) (comment_fits (drop 2 bytes)) is
+found_within bytes found some (case.attribute len begins is) =
+    behind_within 2 bytes (attribute_end 0 (drop 2 bytes)) len (begins_long 40 42 bytes (omega arith) begins) (attribute_fits 0 (drop 2 bytes)) is
+found_within bytes found some (case.word letter reserved) = front_within is_name_byte bytes (name_run_some bytes letter)
+found_within bytes found some (case.name letter other) = front_within is_name_byte bytes (name_run_some bytes letter)
+found_within bytes found some (case.escaped is visible) = (omega arith, run_within is_visible 1 bytes visible)
+found_within bytes found some (case.directive is letter) = (omega arith, run_within is_name_byte 1 bytes (name_run_some (drop 1 bytes) letter))
+found_within bytes found some (case.text len is end) =
+    behind_within 1 bytes (quote_end 34 (drop 1 bytes)) len some (quote_fits 34 (drop 1 bytes)) end
+found_within bytes found some (case.digits other digit of_number) = number_within bytes other digit of_number
+found_within bytes found some (case.unsized form quote is holds) = based_within 0 bytes form is
+found_within bytes found some (case.mark visible other) = one_within bytes some
+found_within bytes found some (case.symbol is) = one_within bytes some
+found_within bytes found some (case.table_end is) = (omega arith, table_end_long bytes is)
 
 -- what is found lies in the text
 pub place_within : (table : Bool) (bytes : List ℕ) (piece : Piece) → 0 < length bytes → place_at table bytes ≡ Ok piece → (0 < piece.len) × (piece.len ≤ length bytes)
-place_within table bytes piece some is = subst (λ (found : Found). Within (length bytes) found) is (place_found table bytes some)
+place_within table bytes piece some is = subst (λ (found : Found). Within (length bytes) found) is (found_within bytes (place_at table bytes) some (place_case table bytes))

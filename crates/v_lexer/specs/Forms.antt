@@ -93,7 +93,8 @@ pub record IsDirective (bytes : List ℕ) : Type 0 where
 
 -- a byte that another form begins with
 abbrev pub begins_other : ℕ → Bool
-begins_other byte = is_letter byte || is_ascii_digit byte || byte == 34 || byte == 92 || byte == 96 || byte == 39
+begins_other byte = is_letter byte || is_ascii_digit byte || byte == 34 || byte == 92 || byte == 96
+    || byte == 39
 
 -- one byte from `!` to `~` that begins no other form
 pub record IsMark (bytes : List ℕ) : Type 0 where
@@ -124,4 +125,5 @@ IsFormOf kind.End bytes = ⊥
 
 -- no front of the text that is longer has the form of a token
 abbrev pub IsLongest : List ℕ → ℕ → Type 0
-IsLongest text len = (shape : TokenKind) (front others : List ℕ) → text ≡ front ++ others → IsFormOf shape front → length front ≤ len
+IsLongest text len = (shape : TokenKind) (front others : List ℕ) → text ≡ front ++ others
+    → IsFormOf shape front → length front ≤ len

@@ -7,7 +7,8 @@ use Rattle.v_lexer.specs.Quoted.{text_len}
 -- the length up to the first `*/`, with it
 unfoldable pub comment_end : List ℕ → Option ℕ
 comment_end [] = None
-comment_end (byte ∷ bytes) = if begins 42 47 (byte ∷ bytes) then Some 2 else plus 1 (comment_end bytes)
+comment_end (byte ∷ bytes) = if begins 42 47 (byte ∷ bytes) then Some 2
+    else plus 1 (comment_end bytes)
 
 -- the length of a comment that begins with `/*`
 abbrev pub comment_len : List ℕ → Option ℕ
@@ -15,7 +16,8 @@ comment_len bytes = plus 2 (comment_end (drop 2 bytes))
 
 -- how many bytes after the first belong to a text in quotes that begins with it: none where none does
 abbrev pub quoted_after : List ℕ → ℕ
-quoted_after bytes = if first bytes == 34 then option_map_or (λ len. len - 1) (text_len bytes) 0 else 0
+quoted_after bytes = if first bytes == 34 then option_map_or (λ len. len - 1) (text_len bytes) 0
+    else 0
 
 -- the length up to the first `*)` outside a text in quotes, with it. The first `inside` bytes belong to such a text.
 unfoldable pub attribute_end : ℕ → List ℕ → Option ℕ

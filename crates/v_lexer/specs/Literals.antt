@@ -30,19 +30,26 @@ pub record Form : Type 0 where
   pub digits : List ℕ
   pub len : ℕ
 
--- where digits begin at the place, the form that they end
+-- where digits begin at the offset, the form that they end
 unfoldable pub form_with : Bool → Base → ℕ → List ℕ → Option Form
 form_with signed base start bytes =
     if literal_run (drop start bytes) == 0 || first (drop start bytes) == 95 then None
-    else Some (record { signed = signed; base = base; digits = take (literal_run (drop start bytes)) (drop start bytes); len = start + literal_run (drop start bytes) })
+    else Some (record {
+      signed = signed;
+      base = base;
+      digits = take (literal_run (drop start bytes)) (drop start bytes);
+      len = start + literal_run (drop start bytes);
+    })
 
 -- the parts of a form of the program without where they lie in memory
 abbrev pub form_view : literal.Form → Form
-form_view form = record { signed = form.signed; base = form.base; digits = form.digits.now; len = form.len }
+form_view form =
+    record { signed = form.signed; base = form.base; digits = form.digits.now; len = form.len }
 
--- what stands after the base, which is at the place: blanks and digits
+-- what stands after the base, which is at the offset: blanks and digits
 abbrev pub form_after : Bool → ℕ → List ℕ → Base → Option Form
-form_after signed place bytes base = form_with signed base (place + 1 + blank_run (drop (place + 1) bytes)) bytes
+form_after signed offset bytes base =
+    form_with signed base (offset + 1 + blank_run (drop (offset + 1) bytes)) bytes
 
 abbrev pub and_then : {A B : Type 0} → Option A → (A → Option B) → Option B
 and_then None f = None
@@ -82,7 +89,8 @@ extension_of digits = if is_x (first digits) then X else if is_z (first digits) 
 
 -- a digit of the base, an x, a z, a `?` or `_`
 unfoldable pub is_digit_of : Base → ℕ → Bool
-is_digit_of base byte = byte == 95 || is_x byte || is_z byte || nat_lt (digit_value byte) (radix base)
+is_digit_of base byte = byte == 95 || is_x byte || is_z byte
+    || nat_lt (digit_value byte) (radix base)
 
 -- a decimal digit or `_`
 abbrev pub is_decimal_digit : ℕ → Bool
@@ -90,7 +98,8 @@ is_decimal_digit byte = byte == 95 || is_ascii_digit byte
 
 -- a single x, z or `?`, which `_` may follow
 unfoldable pub is_single : List ℕ → Bool
-is_single digits = (is_x (first digits) || is_z (first digits)) && list_all (λ byte. byte == 95) (drop 1 digits)
+is_single digits = (is_x (first digits) || is_z (first digits))
+    && list_all (λ byte. byte == 95) (drop 1 digits)
 
 -- each digit is one of the base; of base d, all are decimal digits, or there is a single x, z or `?`
 unfoldable pub digits_hold : Base → List ℕ → Bool
@@ -134,13 +143,15 @@ size_holds (Some size) = nat_le 1 size && nat_le size 128
 -- of base d a value is at most 2 ^ 128 - 1; without size 32 bits are enough, so that it is at most 2 ^ 32 - 1
 unfoldable pub value_holds : Option ℕ → Base → List ℕ → Bool
 value_holds None Decimal digits = is_single digits || nat_le (decimal_value digits) 4294967295
-value_holds (Some size) Decimal digits = is_single digits || nat_le (decimal_value digits) 340282366920938463463374607431768211455
+value_holds (Some size) Decimal digits = is_single digits
+    || nat_le (decimal_value digits) 340282366920938463463374607431768211455
 value_holds None base digits = nat_le (needed (bits_of base digits)) 32
 value_holds (Some size) base digits = true
 
 -- the number has none of the faults of a based number
 unfoldable pub holds : Option ℕ → Form → Bool
-holds size form = size_holds size && digits_hold form.base form.digits && value_holds size form.base form.digits
+holds size form = size_holds size && digits_hold form.base form.digits
+    && value_holds size form.base form.digits
 
 -- what extends bits on the left
 abbrev pub filler : List Bit → Bit
@@ -150,7 +161,8 @@ filler bits = Zero
 
 -- as many bits as the number: extended on the left, or cut on the left
 unfoldable pub fit : ℕ → List Bit → List Bit
-fit n bits = if nat_lt (length bits) n then replicate (n - length bits) (filler bits) ++ bits else drop (length bits - n) bits
+fit n bits = if nat_lt (length bits) n then replicate (n - length bits) (filler bits) ++ bits
+    else drop (length bits - n) bits
 
 -- the value in binary with so many bits, cut on the left
 unfoldable pub binary : ℕ → ℕ → List Bit
@@ -159,5 +171,6 @@ binary (suc n) value = (if (value / 2 ^ n) % 2 == 1 then One else Zero) ∷ bina
 
 -- the bits of the digits, as many as the number
 unfoldable pub bits_in : ℕ → Base → List ℕ → List Bit
-bits_in n Decimal digits = if is_single digits then replicate n (bit_at (first digits) 1) else binary n (decimal_value digits)
+bits_in n Decimal digits = if is_single digits then replicate n (bit_at (first digits) 1)
+    else binary n (decimal_value digits)
 bits_in n base digits = fit n (bits_of base digits)

@@ -18,7 +18,8 @@ decimal_value digits = value_after 0 digits
 -- the length of digits, `.` and digits, or 0
 unfoldable pub decimal_len : List ℕ → ℕ
 decimal_len bytes =
-    if first (drop (digit_run bytes) bytes) == 46 && nat_lt 0 (digit_run (drop (digit_run bytes + 1) bytes)) then
+    if first (drop (digit_run bytes) bytes) == 46
+    && nat_lt 0 (digit_run (drop (digit_run bytes + 1) bytes)) then
     digit_run bytes + 1 + digit_run (drop (digit_run bytes + 1) bytes)
     else 0
 
@@ -33,6 +34,7 @@ exponent_head bytes = 1 + sign_len (drop 1 bytes)
 -- the length of `e` or `E`, an optional sign and digits, or 0
 unfoldable pub exponent_len : List ℕ → ℕ
 exponent_len bytes =
-    if (first bytes == 101 || first bytes == 69) && nat_lt 0 (digit_run (drop (exponent_head bytes) bytes)) then
+    if (first bytes == 101 || first bytes == 69)
+    && nat_lt 0 (digit_run (drop (exponent_head bytes) bytes)) then
     exponent_head bytes + digit_run (drop (exponent_head bytes) bytes)
     else 0

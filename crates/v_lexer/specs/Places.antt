@@ -1,4 +1,4 @@
--- What stands at a place of a text: a token, blanks, a comment, an attribute, or a fault.
+-- What stands at an offset of a text: a token, blanks, a comment, an attribute, or a fault.
 use Rattle.std.specs.Prelude.{ℕ, ◌+◌, Bool, true, false, not, ◌&&◌, ◌==◌, nat_lt, List, take, drop, codes, Option, Some, None, Result, Ok, Err, if◌then◌else◌}
 use Rattle.std.specs.List.{list_any}
 use Rattle.std.specs.Char.{is_ascii_digit}
@@ -51,7 +51,8 @@ slash_at other bytes =
 -- an attribute, or the mark `(`
 unfoldable pub open_at : List ℕ → Found
 open_at bytes =
-    if begins 40 42 bytes && not (first (drop 2 bytes) == 41) then ended None fault.OpenComment (attribute_len bytes)
+    if begins 40 42 bytes && not (first (drop 2 bytes) == 41)
+    then ended None fault.OpenComment (attribute_len bytes)
     else token kind.Mark 1
 
 -- a text in quotes
@@ -60,44 +61,52 @@ quote_at bytes = ended (Some kind.Text) fault.OpenString (text_len bytes)
 
 -- a `\` and one or more bytes from `!` to `~`
 unfoldable pub escaped_at : List ℕ → Found
-escaped_at bytes = if nat_lt 0 (visible_run (drop 1 bytes)) then token kind.Name (1 + visible_run (drop 1 bytes)) else Err fault.BadByte
+escaped_at bytes = if nat_lt 0 (visible_run (drop 1 bytes))
+    then token kind.Name (1 + visible_run (drop 1 bytes)) else Err fault.BadByte
 
 -- a backquote and the bytes of a name
 unfoldable pub directive_at : List ℕ → Found
-directive_at bytes = if is_letter (first (drop 1 bytes)) then token kind.Directive (1 + name_run (drop 1 bytes)) else Err fault.BadByte
+directive_at bytes = if is_letter (first (drop 1 bytes))
+    then token kind.Directive (1 + name_run (drop 1 bytes)) else Err fault.BadByte
 
 -- a name or a reserved word
 unfoldable pub name_at : List ℕ → Found
-name_at bytes = token (if is_reserved (take (name_run bytes) bytes) then kind.Word else kind.Name) (name_run bytes)
+name_at bytes =
+    token (if is_reserved (take (name_run bytes) bytes) then kind.Word else kind.Name)
+    (name_run bytes)
 
--- a based number whose `'` stands at the place, where it has none of its faults
+-- a based number whose `'` stands at the offset, where it has none of its faults
 unfoldable pub literal_with : Option ℕ → ℕ → Option Form → Found
-literal_with size place None = Err fault.BadNumber
-literal_with size place (Some form) = if holds size form then token kind.Based (place + form.len) else Err fault.BadNumber
+literal_with size offset None = Err fault.BadNumber
+literal_with size offset (Some form) = if holds size form then token kind.Based (offset + form.len)
+    else Err fault.BadNumber
 
 abbrev pub literal_at : Option ℕ → ℕ → List ℕ → Found
-literal_at size place bytes = literal_with size place (form_at (drop place bytes))
+literal_at size offset bytes = literal_with size offset (form_at (drop offset bytes))
 
 -- a number or a decimal of the length, or the exponent that begins with it
 unfoldable pub exponent_at : TokenKind → ℕ → List ℕ → Found
 exponent_at shape len bytes =
-    if nat_lt 0 (exponent_len (drop len bytes)) then token kind.Exponent (len + exponent_len (drop len bytes))
+    if nat_lt 0 (exponent_len (drop len bytes))
+    then token kind.Exponent (len + exponent_len (drop len bytes))
     else token shape len
 
 -- where a `'` may stand after a number of the length
-abbrev pub quote_place : ℕ → List ℕ → ℕ
-quote_place len bytes = len + blank_run (drop len bytes)
+abbrev pub quote_offset : ℕ → List ℕ → ℕ
+quote_offset len bytes = len + blank_run (drop len bytes)
 
 -- what begins with a number of the length
 unfoldable pub whole_at : ℕ → List ℕ → Found
 whole_at len bytes =
     if not (nat_lt (decimal_value (take len bytes)) 2147483648) then Err fault.BadNumber
-    else if first (drop (quote_place len bytes) bytes) == 39 then literal_at (Some (decimal_value (take len bytes))) (quote_place len bytes) bytes
+    else if first (drop (quote_offset len bytes) bytes) == 39
+    then literal_at (Some (decimal_value (take len bytes))) (quote_offset len bytes) bytes
     else exponent_at kind.Number len bytes
 
 -- what begins with a digit
 unfoldable pub number_at : List ℕ → Found
-number_at bytes = if nat_lt 0 (decimal_len bytes) then exponent_at kind.Decimal (decimal_len bytes) bytes else whole_at (number_run bytes) bytes
+number_at bytes = if nat_lt 0 (decimal_len bytes)
+    then exponent_at kind.Decimal (decimal_len bytes) bytes else whole_at (number_run bytes) bytes
 
 -- what stands at the front of a text outside tables
 unfoldable pub plain_at : List ℕ → Found
@@ -122,7 +131,8 @@ is_symbol byte = list_any (λ symbol. byte == symbol) symbols
 
 -- the word that ends a table, and no longer name
 unfoldable pub is_table_end : List ℕ → Bool
-is_table_end bytes = same_name (take 8 bytes) (codes "endtable") && not (is_name_byte (first (drop 8 bytes)))
+is_table_end bytes = same_name (take 8 bytes) (codes "endtable")
+    && not (is_name_byte (first (drop 8 bytes)))
 
 -- what stands at the front of a text inside a table
 unfoldable pub row_at : List ℕ → Found
@@ -143,4 +153,5 @@ is_table_word word = same_name word (codes "table")
 
 -- whether what comes after a token or a gap is inside a table: from the word `table` to the next word, which is `endtable`
 unfoldable pub table_after : Bool → Piece → List ℕ → Bool
-table_after table piece bytes = if is_word piece.kind then not table && is_table_word (take piece.len bytes) else table
+table_after table piece bytes = if is_word piece.kind then not table
+    && is_table_word (take piece.len bytes) else table

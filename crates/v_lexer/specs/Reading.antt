@@ -9,27 +9,30 @@ use Rattle.v_lexer.specs.declared.fault.LexFault.TheVariants as fault
 use Rattle.v_lexer.specs.Places.{place_at, table_after}
 use Rattle.v_lexer.specs.Tokens.{lines_after, end_at, given}
 
--- the line of a place: 1, and the line feeds before it
+-- the line of an offset: 1, and the line feeds before it
 abbrev pub line_of : List ℕ → ℕ → ℕ
 line_of text at = lines_after 1 (take at text)
 
--- the piece is what stands at the place, and lies in the text
+-- the piece is what stands at the offset, and lies in the text
 pub record Stands (text : List ℕ) (table : Bool) (at : ℕ) (piece : Piece) : Type 0 where
   pub found : place_at table (drop at text) ≡ Ok piece
   pub some : 0 < piece.len
   pub within : at + piece.len ≤ length text
 
--- from a place on the text is these pieces up to its end, and these are the tokens among them
+-- from an offset on the text is these pieces up to its end, and these are the tokens among them
 abbrev pub Reads : List ℕ → Bool → ℕ → List Piece → List Token → Type 0
 Reads text table at [] tokens = (at ≡ length text) × (tokens ≡ end_at at (line_of text at) ∷ [])
 Reads text table at (piece ∷ pieces) tokens =
-    (others : List Token) × Stands text table at piece × (tokens ≡ given at (line_of text at) piece.kind piece.len ++ others)
+    (others : List Token) × Stands text table at piece
+    × (tokens ≡ given at (line_of text at) piece.kind piece.len ++ others)
     × Reads text (table_after table piece (drop at text)) (at + piece.len) pieces others
 
--- from a place on the text is these pieces up to a fault, which is in the line
+-- from an offset on the text is these pieces up to a fault, which is in the line
 abbrev pub Stops : List ℕ → FaultKind → ℕ → Bool → ℕ → List Piece → Type 0
-Stops text wrong line table at [] = (at < length text) × (place_at table (drop at text) ≡ Err wrong) × (line ≡ line_of text at)
-Stops text wrong line table at (piece ∷ pieces) = Stands text table at piece × Stops text wrong line (table_after table piece (drop at text)) (at + piece.len) pieces
+Stops text wrong line table at [] = (at < length text)
+    × (place_at table (drop at text) ≡ Err wrong) × (line ≡ line_of text at)
+Stops text wrong line table at (piece ∷ pieces) = Stands text table at piece
+    × Stops text wrong line (table_after table piece (drop at text)) (at + piece.len) pieces
 
 -- the text is pieces, and these are the tokens among them, and its end
 abbrev pub AreTokensOf : List ℕ → List Token → Type 0
@@ -50,4 +53,5 @@ IsFaultOf text (fault.BadNumber line) = StopsAt text kind.BadNumber line
 -- each token begins at or after the end of the one before, and ends at or after its beginning
 abbrev pub Rise : ℕ → List Token → Type 0
 Rise from [] = Unit {0}
-Rise from (token ∷ tokens) = (from ≤ token.start) × (token.start ≤ token.end) × Rise token.end tokens
+Rise from (token ∷ tokens) = (from ≤ token.start) × (token.start ≤ token.end)
+    × Rise token.end tokens

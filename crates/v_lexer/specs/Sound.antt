@@ -53,12 +53,15 @@ pub record IsSound (text : List ℕ) (token : Token) : Type 0 where
   pub number : token.kind ≡ kind.Number → decimal_value (bytes_of text token) < 2147483648
   pub decimal : token.kind ≡ kind.Decimal → HasDigits (bytes_of text token)
   pub based : token.kind ≡ kind.Based → HasBits (bytes_of text token)
-  pub symbol : token.kind ≡ kind.Symbol → (token.end ≡ token.start + 1) × IsTrue (is_symbol (first (bytes_of text token)))
-  pub mark : token.kind ≡ kind.Mark → (token.end ≡ token.start + 1) × IsTrue (is_visible (first (bytes_of text token)))
+  pub symbol : token.kind ≡ kind.Symbol → (token.end ≡ token.start + 1)
+      × IsTrue (is_symbol (first (bytes_of text token)))
+  pub mark : token.kind ≡ kind.Mark → (token.end ≡ token.start + 1)
+      × IsTrue (is_visible (first (bytes_of text token)))
   pub last : token.kind ≡ kind.End → token.start ≡ length text
 
 -- each token is sound, the last is the end of the text, and no other is
 abbrev pub AreSound : List ℕ → List Token → Type 0
 AreSound text [] = ⊥
 AreSound text (token ∷ others) =
-    IsSound text token × (token.kind ≡ kind.End → others ≡ []) × (¬ (token.kind ≡ kind.End) → AreSound text others)
+    IsSound text token × (token.kind ≡ kind.End → others ≡ [])
+    × (¬ (token.kind ≡ kind.End) → AreSound text others)

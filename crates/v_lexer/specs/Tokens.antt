@@ -33,7 +33,7 @@ fault_at kind.BadNumber line = fault.BadNumber line
 abbrev pub end_at : ℕ → ℕ → Token
 end_at at line = record { kind = End; start = at; end = at; line = line }
 
--- the token of a kind and a length that stands at a place of a line: none for blanks, comments and attributes
+-- the token of a kind and a length that stands at an offset of a line: none for blanks, comments and attributes
 abbrev pub given : ℕ → ℕ → Option TokenKind → ℕ → List Token
 given at line None len = []
 given at line (Some kind) len = record { kind = kind; start = at; end = at + len; line = line } ∷ []
@@ -43,17 +43,20 @@ abbrev pub onto : List Token → Lexed → Lexed
 onto tokens (Ok others) = Ok (tokens ++ others)
 onto tokens (Err fault) = Err fault
 
--- what is found at a place of a line, and the tokens after it
+-- what is found at an offset of a line, and the tokens after it
 unfoldable pub found_at : ℕ → ℕ → Bool → List ℕ → Found → (ℕ → Bool → Lexed) → Lexed
 found_at at line table bytes (Err wrong) rest = Err (fault_at wrong line)
-found_at at line table bytes (Ok piece) rest = onto (given at line piece.kind piece.len) (rest (piece.len - 1) (table_after table piece bytes))
+found_at at line table bytes (Ok piece) rest =
+    onto (given at line piece.kind piece.len) (rest (piece.len - 1) (table_after table piece bytes))
 
--- the tokens from a place of a line on, whose first `inside` bytes belong to what began before
+-- the tokens from an offset of a line on, whose first `inside` bytes belong to what began before
 unfoldable pub tokens_from : ℕ → Bool → ℕ → ℕ → List ℕ → Lexed
 tokens_from inside table at line [] = Ok (end_at at line ∷ [])
-tokens_from (suc inside) table at line (byte ∷ bytes) = tokens_from inside table (at + 1) (line_after line byte) bytes
+tokens_from (suc inside) table at line (byte ∷ bytes) =
+    tokens_from inside table (at + 1) (line_after line byte) bytes
 tokens_from zero table at line (byte ∷ bytes) =
-    found_at at line table (byte ∷ bytes) (place_at table (byte ∷ bytes)) (λ inside after. tokens_from inside after (at + 1) (line_after line byte) bytes)
+    found_at at line table (byte ∷ bytes) (place_at table (byte ∷ bytes))
+    (λ inside after. tokens_from inside after (at + 1) (line_after line byte) bytes)
 
 -- the tokens of a text, or its first lexical fault
 unfoldable pub tokens_of : List ℕ → Lexed

@@ -5,7 +5,7 @@ use Rattle.v_lexer.specs.declared.values.DecimalDigits.{DecimalDigits}
 use Rattle.v_lexer.specs.Bytes.{first, number_run, digit_run}
 use Rattle.v_lexer.specs.Numbers.{decimal_value}
 use Rattle.v_lexer.specs.Literals.{Form, form_at, holds, bits_in, extension_of}
-use Rattle.v_lexer.specs.Places.{quote_place}
+use Rattle.v_lexer.specs.Places.{quote_offset}
 
 -- the text of a name: an escaped one is without its `\`
 abbrev pub name_text : List ℕ → List ℕ
@@ -17,7 +17,11 @@ digits_in bytes = map (λ byte. byte - 48) bytes
 
 -- the digits of a decimal before and behind its `.`
 abbrev pub decimal_digits : List ℕ → DecimalDigits
-decimal_digits token = record { whole = digits_in (take (digit_run token) token); fraction = digits_in (drop (digit_run token + 1) token) }
+decimal_digits token =
+    record {
+      whole = digits_in (take (digit_run token) token);
+      fraction = digits_in (drop (digit_run token + 1) token);
+    }
 
 -- how many bits a based number has: 32 without size
 abbrev pub width_of : Option ℕ → ℕ
@@ -29,7 +33,13 @@ unfoldable pub meaning : Option ℕ → Option Form → Option Literal
 meaning size None = None
 meaning size (Some form) =
     if holds size form then
-    Some (record { size = size; signed = form.signed; base = form.base; bits = bits_in (width_of size) form.base form.digits; extension = extension_of form.digits })
+    Some (record {
+      size = size;
+      signed = form.signed;
+      base = form.base;
+      bits = bits_in (width_of size) form.base form.digits;
+      extension = extension_of form.digits;
+    })
     else None
 
 -- the meaning of the based number at the front of a text, where one without faults is there
@@ -37,5 +47,6 @@ unfoldable pub literal_of : List ℕ → Option Literal
 literal_of text =
     if number_run text == 0 then meaning None (form_at text)
     else if nat_lt (decimal_value (take (number_run text) text)) 2147483648 then
-    meaning (Some (decimal_value (take (number_run text) text))) (form_at (drop (quote_place (number_run text) text) text))
+    meaning (Some (decimal_value (take (number_run text) text)))
+    (form_at (drop (quote_offset (number_run text) text) text))
     else None

@@ -20,11 +20,13 @@ words_of (byte ∷ bytes) = if byte == 32 then [] ∷ words_of bytes else onto b
 
 -- the words that the grammar has in modules and primitives
 unfoldable pub grammar_words : List (List ℕ)
-grammar_words = words_of (codes "module macromodule endmodule input output inout wire tri wand triand wor trior tri0 tri1 supply0 supply1 trireg assign vectored scalared small medium large strong0 strong1 pull0 pull1 weak0 weak1 highz0 highz1 tran rtran pullup pulldown and nand or nor xor xnor buf not bufif0 bufif1 notif0 notif1 nmos pmos rnmos rpmos cmos rcmos tranif0 tranif1 rtranif0 rtranif1 primitive table endtable endprimitive")
+grammar_words =
+    words_of (codes "module macromodule endmodule input output inout wire tri wand triand wor trior tri0 tri1 supply0 supply1 trireg assign vectored scalared small medium large strong0 strong1 pull0 pull1 weak0 weak1 highz0 highz1 tran rtran pullup pulldown and nand or nor xor xnor buf not bufif0 bufif1 notif0 notif1 nmos pmos rnmos rpmos cmos rcmos tranif0 tranif1 rtranif0 rtranif1 primitive table endtable endprimitive")
 
 -- the words that the grammar leaves out: of these it has `reg` and `initial` in primitives, and `specify` and `endspecify` around blocks
 unfoldable pub left_out_words : List (List ℕ)
-left_out_words = words_of (codes "always automatic begin case casex casez deassign defparam disable edge else end endcase endfunction endgenerate endspecify endtask event for force forever fork function generate genvar if initial integer join localparam negedge parameter posedge real realtime reg release repeat signed specify specparam task time unsigned uwire wait while")
+left_out_words =
+    words_of (codes "always automatic begin case casex casez deassign defparam disable edge else end endcase endfunction endgenerate endspecify endtask event for force forever fork function generate genvar if initial integer join localparam negedge parameter posedge real realtime reg release repeat signed specify specparam task time unsigned uwire wait while")
 
 -- the words of the grammar, and then those that it leaves out
 unfoldable pub reserved : List (List ℕ)

@@ -4,7 +4,7 @@ ghost use Rattle.v_lexer.specs.declared.fault.LexFault.TheVariants.{Memory};
 use std::alloc::{AllocError, AllocFailed};
 use thiserror::Error;
 
-/// What is wrong at a place of a text.
+/// What is wrong at an offset of a text.
 #[derive(Clone, Copy)]
 pub enum FaultKind {
     BadByte,

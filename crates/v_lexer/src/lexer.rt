@@ -48,7 +48,8 @@ fn lines_after(line: u32, bytes: &[u8]) -> u32
 /// Puts a token at the end, where the piece is one.
 fn push_given(tokens: &mut Vec<Token>, piece: Piece, at: u32, line: u32) -> Result<(), LexFault>
     requires { at + piece.len < 2 ^ 32 }
-    ensures ok { OnOk result (tokens.new.items ≡ tokens.old.items ++ given at line piece.kind piece.len) }
+    ensures ok { OnOk result
+        (tokens.new.items ≡ tokens.old.items ++ given at line piece.kind piece.len) }
     ensures err { IfErr result (λ e. e ≡ Memory) }
 {
     match piece.kind {
@@ -100,7 +101,7 @@ fn lexed(alloc: Global, text: &[u8]) -> Result<TokenList, LexFault>
 
 /// The tokens of a text of at most 64 MiB, the last of which is its end.
 ///
-/// A token is the longest form at its place. Its places count bytes from 0, its line from 1. The
+/// A token is the longest form at its offset. Its offsets count bytes from 0, its line from 1. The
 /// error is the first lexical fault of the text; `Memory` says nothing of the text.
 pub fn tokens(alloc: Global, text: &[u8]) -> Result<TokenList, LexFault>
     requires { length text.now ≤ 67108864 }
@@ -109,18 +110,21 @@ pub fn tokens(alloc: Global, text: &[u8]) -> Result<TokenList, LexFault>
     // The text is these tokens, with blanks, comments and attributes between them.
     ensures found { IfOk result (λ tokens. AreTokensOf text.now tokens) }
     // There is no other list of tokens that the text is.
-    ensures only { (tokens : List Token) → AreTokensOf text.now tokens → Gives (λ tokens. tokens) result (Ok tokens) }
+    ensures only { (tokens : List Token) → AreTokensOf text.now tokens
+        → Gives (λ tokens. tokens) result (Ok tokens) }
     // Tokens don't overlap.
     ensures rising { IfOk result (λ tokens. Rise 0 tokens) }
     // Each lies in the text, and its bytes are what its kind says: each based number has its bits,
     // each number its value. The last is the end of the text, and no other is.
     ensures sound { IfOk result (λ tokens. AreSound text.now tokens) }
-    // Outside tables no longer form of a token stands at the place of one, or of a gap.
-    ensures longest { (at : ℕ) (piece : Piece) → Stands text.now false at piece → IsLongest (drop at text.now) piece.len }
+    // Outside tables no longer form of a token stands at the offset of one, or of a gap.
+    ensures longest { (at : ℕ) (piece : Piece) → Stands text.now false at piece
+        → IsLongest (drop at text.now) piece.len }
     // The fault is the first, and has its line.
     ensures fault { IfErr result (λ fault. IsFaultOf text.now fault) }
     // Where the text has a first lexical fault, that is what is answered, unless memory runs out.
-    ensures fault_only { (wrong : FaultKind) (line : ℕ) → StopsAt text.now wrong line → Gives (λ tokens. tokens) result (Err (fault_at wrong line)) }
+    ensures fault_only { (wrong : FaultKind) (line : ℕ) → StopsAt text.now wrong line
+        → Gives (λ tokens. tokens) result (Err (fault_at wrong line)) }
 {
     lexed(alloc, text)
 }

@@ -70,7 +70,7 @@ fn signed_len(text: &[u8]) -> usize
     }
 }
 
-/// The form with digits from a place on.
+/// The form with digits from an offset on.
 #[tactic(auto, unfolding(crate::specs::Literals::form_with))]
 fn form_with(signed: bool, base: Base, start: usize, text: &[u8]) -> Option<Form>
     requires { start < 2 ^ 63 }
@@ -97,10 +97,10 @@ pub fn form_at(text: &[u8]) -> Option<Form>
     ensures within { IfSome result (λ form. (0 < form.len) × (form.len ≤ length text.now)) }
 {
     let signed = signed_len(after(text, 1));
-    let place = 1 + signed;
-    match base_of(first(after(text, place))) {
+    let offset = 1 + signed;
+    match base_of(first(after(text, offset))) {
         Some(base) => {
-            let start = place + 1 + blank_run(after(text, place + 1));
+            let start = offset + 1 + blank_run(after(text, offset + 1));
             form_with(signed == 1, base, start, text)
         }
         None => None,

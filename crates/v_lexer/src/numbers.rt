@@ -5,7 +5,8 @@ use crate::bytes::{after, digit_run, first};
 
 /// A value with one more decimal digit behind it, where it is below 2^128. `_` is passed over.
 fn value_with(value: u128, byte: u8) -> Option<u128>
-    ensures { MatchOption result (2 ^ 128 ≤ value_with value byte) (λ v. v ≡ value_with value byte) }
+    ensures { MatchOption result (2 ^ 128 ≤ value_with value byte)
+        (λ v. v ≡ value_with value byte) }
 {
     if byte == b'_' {
         return Some(value);
@@ -19,7 +20,8 @@ fn value_with(value: u128, byte: u8) -> Option<u128>
 /// The value of decimal digits, among which `_` may stand, where it is below 2^128.
 #[tactic(auto, using(crate::proofs::Growth::values), unfolding(crate::specs::Numbers::value_after))]
 pub fn decimal_value(digits: &[u8]) -> Option<u128>
-    ensures { MatchOption result (2 ^ 128 ≤ decimal_value digits.now) (λ value. value ≡ decimal_value digits.now) }
+    ensures { MatchOption result (2 ^ 128 ≤ decimal_value digits.now)
+        (λ value. value ≡ decimal_value digits.now) }
 {
     let mut value: u128 = 0;
     let mut rest = digits;
@@ -35,7 +37,8 @@ pub fn decimal_value(digits: &[u8]) -> Option<u128>
 
 /// The value of a number, where it is below 2^31.
 pub fn small_value(digits: &[u8]) -> Option<u32>
-    ensures { MatchOption result (2147483648 ≤ decimal_value digits.now) (λ value. (value ≡ decimal_value digits.now) × (value < 2147483648)) }
+    ensures { MatchOption result (2147483648 ≤ decimal_value digits.now)
+        (λ value. (value ≡ decimal_value digits.now) × (value < 2147483648)) }
 {
     match decimal_value(digits) {
         Some(value) => {

@@ -1,5 +1,5 @@
 ghost use Rattle.std.specs.Prelude.{◌≡◌, ◌≤◌, ◌<◌, ◌+◌, length, IsTrue, IfOk};
-ghost use Rattle.v_lexer.specs.Places.{is_word, mark_at, slash_at, open_at, quote_at, escaped_at, directive_at, name_at, literal_at, exponent_at, quote_place, whole_at, number_at, plain_at, is_symbol, is_table_end, row_at, place_at, is_table_word, table_after};
+ghost use Rattle.v_lexer.specs.Places.{is_word, mark_at, slash_at, open_at, quote_at, escaped_at, directive_at, name_at, literal_at, exponent_at, quote_offset, whole_at, number_at, plain_at, is_symbol, is_table_end, row_at, place_at, is_table_word, table_after};
 ghost use Rattle.std.specs.Char.{is_ascii_digit};
 ghost use Rattle.v_lexer.specs.Bytes.{first, is_letter};
 
@@ -134,17 +134,17 @@ fn name_at(words: &ReservedWords, text: &[u8]) -> Result<Piece, FaultKind>
     }
 }
 
-/// A based number whose `'` stands at the place, and whose size is given.
+/// A based number whose `'` stands at the offset, and whose size is given.
 #[tactic(auto, unfolding(crate::specs::Places::literal_with))]
-fn literal_at(size: Option<u32>, place: usize, text: &[u8]) -> Result<Piece, FaultKind>
-    requires { place ≤ length text.now }
-    ensures at { result ≡ literal_at size place text.now }
+fn literal_at(size: Option<u32>, offset: usize, text: &[u8]) -> Result<Piece, FaultKind>
+    requires { offset ≤ length text.now }
+    ensures at { result ≡ literal_at size offset text.now }
     ensures within { IfOk result (λ piece. (0 < piece.len) × (piece.len ≤ length text.now)) }
 {
-    match form_at(after(text, place)) {
+    match form_at(after(text, offset)) {
         Some(form) => {
             if holds(size, &form) {
-                token(TokenKind::Based, place + form.len)
+                token(TokenKind::Based, offset + form.len)
             } else {
                 Err(FaultKind::BadNumber)
             }
@@ -177,12 +177,12 @@ fn whole_at(len: usize, text: &[u8]) -> Result<Piece, FaultKind>
     ensures at { result ≡ whole_at len text.now }
     ensures within { IfOk result (λ piece. (0 < piece.len) × (piece.len ≤ length text.now)) }
 {
-    let place = len + blank_run(after(text, len));
+    let offset = len + blank_run(after(text, len));
     match small_value(before(text, len)) {
         None => Err(FaultKind::BadNumber),
         Some(size) => {
-            if first(after(text, place)) == b'\'' {
-                literal_at(Some(size), place, text)
+            if first(after(text, offset)) == b'\'' {
+                literal_at(Some(size), offset, text)
             } else {
                 exponent_at(TokenKind::Number, len, text)
             }

@@ -26,7 +26,7 @@ pub enum TokenKind {
     End,
 }
 
-/// A token: what it is, the places of its first byte and of the byte after it, counted from 0, and
+/// A token: what it is, the offsets of its first byte and of the byte after it, counted from 0, and
 /// the line of its first byte, counted from 1.
 #[derive(Clone, Copy, Debug, PartialEq, Eq)]
 pub struct Token {

@@ -14,7 +14,7 @@ use std::alloc::{AllocError, Global};
 
 /// What a based number means: its size where one is written, whether it is signed, its base, its bits
 /// from the left, as many as the size or 32, and the bit that extends it on the left where it has no
-/// size and its place is wider: x or z where its leftmost digit is one, else 0 (IEEE 1364-2005, 3.5.1).
+/// size and its context is wider: x or z where its leftmost digit is one, else 0 (IEEE 1364-2005, 3.5.1).
 #[derive(Debug, Drop)]
 pub struct Literal {
     pub size: Option<u32>,
@@ -45,7 +45,8 @@ pub fn name_text(token: &[u8]) -> &[u8]
 
 /// The value of a number by the bytes of its token: `None` exactly where it is 2^31 or more.
 pub fn number_value(token: &[u8]) -> Option<u32>
-    ensures { MatchOption result (2147483648 ≤ decimal_value token.now) (λ value. (value ≡ decimal_value token.now) × (value < 2147483648)) }
+    ensures { MatchOption result (2147483648 ≤ decimal_value token.now)
+        (λ value. (value ≡ decimal_value token.now) × (value < 2147483648)) }
 {
     small_value(token)
 }
@@ -164,11 +165,11 @@ fn fit(alloc: Global, n: usize, bits: &[Bit]) -> Result<Vec<Bit>, AllocError>
     }
 }
 
-fn bit_of(value: u128, place: u32) -> Bit
-    requires { place < 128 }
-    ensures { result ≡ (if (value / 2 ^ place) % 2 == 1 then One else Zero) }
+fn bit_of(value: u128, index: u32) -> Bit
+    requires { index < 128 }
+    ensures { result ≡ (if (value / 2 ^ index) % 2 == 1 then One else Zero) }
 {
-    if (value >> place) % 2 == 1 {
+    if (value >> index) % 2 == 1 {
         Bit::One
     } else {
         Bit::Zero
@@ -192,7 +193,9 @@ fn binary(alloc: Global, n: u32, value: u128) -> Result<Vec<Bit>, AllocError>
 #[tactic(auto, unfolding(crate::specs::Literals::bits_in))]
 fn decimal_bits(alloc: Global, n: u32, digits: &[u8]) -> Result<Vec<Bit>, AllocError>
     requires few { n ≤ 128 }
-    requires small { IsTrue (is_single digits.now || nat_le (decimal_value digits.now) 340282366920938463463374607431768211455) }
+    requires small { IsTrue
+        (is_single digits.now
+        || nat_le (decimal_value digits.now) 340282366920938463463374607431768211455) }
     ensures { IfOk result (λ bits. bits.items ≡ bits_in n Decimal digits.now) }
 {
     if is_single(digits) {
@@ -218,7 +221,8 @@ fn width_of(size: Option<u32>) -> u32
 #[tactic(auto, unfolding(crate::specs::Literals::bits_in))]
 fn bits_in(alloc: Global, size: Option<u32>, form: &Form) -> Result<Vec<Bit>, AllocError>
     requires { IsTrue (holds size (form_view form.now)) }
-    ensures { IfOk result (λ bits. bits.items ≡ bits_in (width_of size) form.now.base form.now.digits.now) }
+    ensures { IfOk result
+        (λ bits. bits.items ≡ bits_in (width_of size) form.now.base form.now.digits.now) }
 {
     let n = width_of(size);
     match form.base {
@@ -272,9 +276,9 @@ pub fn literal_value(alloc: Global, token: &[u8]) -> Result<Option<Literal>, All
     if len == 0 {
         return meaning(alloc, None, token);
     }
-    let place = len + blank_run(after(token, len));
+    let offset = len + blank_run(after(token, len));
     match number_value(before(token, len)) {
-        Some(size) => meaning(alloc, Some(size), after(token, place)),
+        Some(size) => meaning(alloc, Some(size), after(token, offset)),
         None => Ok(None),
     }
 }
@@ -299,9 +303,9 @@ pub fn is_literal(token: &[u8]) -> bool
     if len == 0 {
         return has_meaning(None, token);
     }
-    let place = len + blank_run(after(token, len));
+    let offset = len + blank_run(after(token, len));
     match number_value(before(token, len)) {
-        Some(size) => has_meaning(Some(size), after(token, place)),
+        Some(size) => has_meaning(Some(size), after(token, offset)),
         None => false,
     }
 }

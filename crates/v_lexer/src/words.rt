@@ -80,7 +80,9 @@ fn is_word_of(text: &[u8], word: &[u8]) -> bool
 
 /// Puts the words of a text into a table.
 fn add_words(table: &mut NameTable, text: &[u8]) -> Result<(), AllocError>
-    ensures { OnOk result ((name : List ℕ) → is_among name table.new ≡ (is_among name table.old || is_among name (words_of text.now))) }
+    ensures { OnOk result
+        ((name : List ℕ) → is_among name table.new
+        ≡ (is_among name table.old || is_among name (words_of text.now))) }
 {
     let mut rest = text;
     while let Some((front, back)) = first_word(rest) {

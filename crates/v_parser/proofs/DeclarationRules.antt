@@ -3,7 +3,7 @@ use Rattle.std.proofs.Common.{◌≡◌, ℕ, ◌<◌, Bool, true, false, not, �
 use Rattle.std.proofs.lemmas.Bool.{eqb-true, and_from}
 use Rattle.v_tree.specs.declared.locations.Location.{Location}
 use Rattle.v_tree.specs.declared.locations.Name.{Name}
-use Rattle.v_tree.specs.declared.expressions.Range.{Range}
+use Rattle.v_tree.specs.declared.expressions.RangeBounds.{RangeBounds}
 use Rattle.v_tree.specs.declared.expressions.Expr.{Expr}
 use Rattle.v_tree.specs.declared.expressions.Target.{Target}
 use Rattle.v_tree.specs.declared.drives.DriveStrength.{DriveStrength}
@@ -71,7 +71,7 @@ names_begin follow (n ∷ names) rest ws f follows = follows n ((behind_commas s
 pub net_type_begins : (t : NetType) (ws : List Written) → begins sees_net_type (spell.net_type t ++ ws) ≡ true
 net_type_begins t ws = ap is_some (net_type_back t)
 
-abbrev port_parts : PortDecl → (Direction × Location) × (Option NetType × (Option Range × (List Name × Unit {0})))
+abbrev port_parts : PortDecl → (Direction × Location) × (Option NetType × (Option RangeBounds × (List Name × Unit {0})))
 port_parts d = ((d.direction, d.location), (d.net_type, (d.range, (d.names, tt))))
 
 -- no `[` is seen
@@ -106,7 +106,7 @@ vector_word_named_rule : Rule read.vector_word_named spell.word_before_range fit
 unfolding read.vector_word_named
 vector_word_named_rule = bare_vector_word_rule
 
-abbrev vector_range_parts : VectorRange → Option VectorWord × Range
+abbrev vector_range_parts : VectorRange → Option VectorWord × RangeBounds
 vector_range_parts s = (s.word, s.range)
 
 -- a range, with a word before it or without one
@@ -118,7 +118,7 @@ vector_range_rule =
     (λ x f. f.1) (λ x f. (free_if_there x.word, f))
 
 -- a word before a range or none is seen
-word_begins : (o : Option VectorWord) (r : Range) (ws : List Written) → begins begins_vector_range ((written_if_there spell.word_before_range o ++ spell.range r) ++ ws) ≡ true
+word_begins : (o : Option VectorWord) (r : RangeBounds) (ws : List Written) → begins begins_vector_range ((written_if_there spell.word_before_range o ++ spell.range r) ++ ws) ≡ true
 word_begins None r ws = refl
 word_begins (Some x) r ws = ap (λ (o : Option VectorWord). is_some o || false) (vector_word_back x)
 
@@ -233,7 +233,7 @@ abbrev no_delay : Follow
 no_delay ws = anything ws && not (begins (sees_mark 35) ws)
 
 -- a vector_range isn't a drive or a charge
-word_no_paren : (o : Option VectorWord) (r : Range) (rest ws : List Written) → no_paren (((written_if_there spell.word_before_range o ++ spell.range r) ++ rest) ++ ws) ≡ true
+word_no_paren : (o : Option VectorWord) (r : RangeBounds) (rest ws : List Written) → no_paren (((written_if_there spell.word_before_range o ++ spell.range r) ++ rest) ++ ws) ≡ true
 word_no_paren None r rest ws = refl
 word_no_paren (Some x) r rest ws = refl
 

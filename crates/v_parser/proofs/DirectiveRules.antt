@@ -5,6 +5,7 @@ use Rattle.std.specs.Option.{option_map}
 use Rattle.std.specs.Str.{bytes_eq}
 use Rattle.std.proofs.lemmas.Bool.{eqb-true}
 use Rattle.std.proofs.lemmas.Slice.Eq.{bytes_eq-Decides}
+use Rattle.std.proofs.lemmas.Option.{same_Some}
 use Rattle.v_tree.specs.declared.locations.Location.{Location}
 use Rattle.v_tree.specs.declared.directives.CellDirective.{CellDirective}
 use Rattle.v_tree.specs.declared.directives.CellWord.{CellWord}
@@ -27,7 +28,7 @@ use Rattle.v_parser.specs.declared.directives.TimeUnit.TheVariants as units
 use Rattle.v_parser.specs.Directives.{sees_directive, cell_of, cell_table, cell_in, factor_of, factor_in, unit_of, unit_table, unit_in, power_of, scale_of, implicit_of, implicit_table, none_of, default_in}
 use Rattle.v_parser.specs.Directives as read
 use Rattle.v_parser.proofs.Rules.{Rule, anything, begins, token_rule, bare_rule, map_rule, variant_rule, refit_rule, pair_rule, choice_rule}
-use Rattle.v_parser.proofs.TokenRules.{some_is, named_is, skip_rule, directive_word_rule}
+use Rattle.v_parser.proofs.TokenRules.{named_is, skip_rule, directive_word_rule}
 
 -- ---- cells
 
@@ -71,15 +72,15 @@ unfolding factor_of
 factor_named n x e = one (eqb n 1) refl e
   where
     hundred : (b : Bool) → eqb n 100 ≡ b → (if b then Some Hundred else None) ≡ Some x → n ≡ count_of x
-    hundred true is f = eqb-true n 100 is ∙ ap count_of (some_is Hundred x f)
+    hundred true is f = eqb-true n 100 is ∙ ap count_of (same_Some Hundred x f)
     hundred false is f = absurd cc
 
     ten : (b : Bool) → eqb n 10 ≡ b → (if b then Some Ten else if eqb n 100 then Some Hundred else None) ≡ Some x → n ≡ count_of x
-    ten true is f = eqb-true n 10 is ∙ ap count_of (some_is Ten x f)
+    ten true is f = eqb-true n 10 is ∙ ap count_of (same_Some Ten x f)
     ten false is f = hundred (eqb n 100) refl f
 
     one : (b : Bool) → eqb n 1 ≡ b → (if b then Some One else if eqb n 10 then Some Ten else if eqb n 100 then Some Hundred else None) ≡ Some x → n ≡ count_of x
-    one true is f = eqb-true n 1 is ∙ ap count_of (some_is One x f)
+    one true is f = eqb-true n 1 is ∙ ap count_of (same_Some One x f)
     one false is f = ten (eqb n 10) refl f
 
 -- a token that is picked as a factor is its number
@@ -277,7 +278,7 @@ none_named name x e = by (bytes_eq name (codes "none")) (bytes_eq-Decides name (
     by : (b : Bool) → (b ≡ true → name ≡ codes "none") → (if b then Some None else None) ≡ Some x → form.Name name ≡ spell.default_form x
     by true same f =
         let none : Option ImplicitNetType = None in
-        ap form.Name (same refl) ∙ ap spell.default_form (some_is none x f)
+        ap form.Name (same refl) ∙ ap spell.default_form (same_Some none x f)
     by false same f = absurd cc
 
 -- a word that stands for a type is that type's
@@ -285,7 +286,7 @@ type_named : (word : List ℕ) (o : Option ImplicitNetType) (x : Option Implicit
 type_named word None x is e = absurd cc
 type_named word (Some t) x is e =
     let some : Option ImplicitNetType = Some t in
-    ap form.Word (implicit_named word t is) ∙ ap spell.default_form (some_is some x e)
+    ap form.Word (implicit_named word t is) ∙ ap spell.default_form (same_Some some x e)
 
 -- a token that is picked as a default is its word or `none`
 default_is : (f : Form) (x : Option ImplicitNetType) → default_in f ≡ Some x → f ≡ spell.default_form x

@@ -1,5 +1,6 @@
 -- Rules of drives, charges and delays.
 use Rattle.std.proofs.Common.{◌≡◌, ◌<◌, true, not, List, [], ◌∷◌, ◌++◌, length, Option, Some, None, is_some, ◌⊎◌, inl, inr, refl, sym, ap, subst, ◌∙◌, arith}
+use Rattle.std.proofs.lemmas.Option.{same_Some}
 use Rattle.v_tree.specs.declared.locations.Location.{Location}
 use Rattle.v_tree.specs.declared.drives.Level.{Level}
 use Rattle.v_tree.specs.declared.drives.DriveStrength.{DriveStrength}
@@ -21,7 +22,7 @@ use Rattle.v_parser.specs.Input.{is_mark, ◌<$>◌, choice}
 use Rattle.v_parser.specs.Expressions.{sees_mark}
 use Rattle.v_parser.specs.Drives as read
 use Rattle.v_parser.proofs.Rules.{Rule, Follow, anything, begins, first_form, bare_rule, map_rule, variant_rule, refit_rule, pair_rule, optional_rule, choice_rule, separated_rule}
-use Rattle.v_parser.proofs.TokenRules.{mark_rule, skip_rule, some_is, bare_level_rule, bare_charge_rule, level_back}
+use Rattle.v_parser.proofs.TokenRules.{mark_rule, skip_rule, bare_level_rule, bare_charge_rule, level_back}
 
 -- a part that has nothing to keep keeps nothing where it isn't there
 pub free_if_there : {A : Type 0} (o : Option A) → fit.IsFitIfThere fit.IsFree o
@@ -99,14 +100,14 @@ charge_rule =
 
 -- a token that is picked as an amount is that amount
 amount_is : (f : Form) (x : Amount) → read.amount_in f ≡ Some x → f ≡ spell.amount_form x
-amount_is (form.Number n) x e = ap spell.amount_form (some_is (amounts.Number n) x e)
-amount_is (form.Decimal digits) x e = ap spell.amount_form (some_is (amounts.Decimal digits) x e)
+amount_is (form.Number n) x e = ap spell.amount_form (same_Some (amounts.Number n) x e)
+amount_is (form.Decimal digits) x e = ap spell.amount_form (same_Some (amounts.Decimal digits) x e)
 amount_is f x e = absurd cc
 
 -- an amount that was read fits
 amount_fits : (f : Form) (x : Amount) → fit.IsSoundForm f → read.amount_in f ≡ Some x → fit.IsFitAmount x
-amount_fits (form.Number n) x sound e = subst fit.IsFitAmount (some_is (amounts.Number n) x e) sound
-amount_fits (form.Decimal digits) x sound e = subst fit.IsFitAmount (some_is (amounts.Decimal digits) x e) sound
+amount_fits (form.Number n) x sound e = subst fit.IsFitAmount (same_Some (amounts.Number n) x e) sound
+amount_fits (form.Decimal digits) x sound e = subst fit.IsFitAmount (same_Some (amounts.Decimal digits) x e) sound
 amount_fits f x sound e = absurd cc
 
 -- an amount is picked as itself

@@ -5,7 +5,7 @@ use Rattle.v_tree.specs.Written.{Form, Written, at, bare, behind_commas, between
 use Rattle.v_tree.specs.Written as form
 use Rattle.v_tree.specs.Fit as fit
 use Rattle.v_tree.specs.Spelling as spell
-use Rattle.v_parser.specs.Input.{token, is_mark, ◌<$>◌, ◌&◌, choice, placed_number, placed_based, mark}
+use Rattle.v_parser.specs.Input.{is_mark, ◌<$>◌, ◌&◌, choice, placed_number, placed_based, mark}
 use Rattle.v_parser.specs.Input as input
 use Rattle.v_lexer.specs.declared.values.Literal.{Literal}
 use Rattle.v_tree.specs.declared.expressions.Expr.{Expr, out-Expr, roll-Expr, roll-out-Expr, map-Expr, fold-roll-Expr, fold_out-Expr}
@@ -16,7 +16,7 @@ use Rattle.v_tree.specs.declared.expressions.Target.TheOpen.{Target-F}
 use Rattle.v_tree.specs.declared.expressions.Target.TheVariants as target
 use Rattle.v_parser.specs.Expressions as read
 use Rattle.v_parser.specs.Expressions.{sees_mark, sees_name, sees_number, range, bound, select, pick, atom, expr_at, target_at, range_of, select_of, pick_of}
-use Rattle.v_tree.specs.declared.expressions.Range.{Range}
+use Rattle.v_tree.specs.declared.expressions.RangeBounds.{RangeBounds}
 use Rattle.v_tree.specs.declared.expressions.Select.{Select}
 use Rattle.v_tree.specs.declared.expressions.Pick.{Pick}
 use Rattle.v_parser.proofs.TokenRules.{name_rule, number_rule, placed_number_rule, placed_based_rule, mark_rule, skip_rule}
@@ -31,7 +31,7 @@ pub range_rule : Rule read.range spell.range fit.IsFitRange anything
 unfolding range
 range_rule = refit_rule
     (map_rule (pair_rule (skip_rule 91) (pair_rule number_rule (pair_rule (skip_rule 58) (pair_rule number_rule (skip_rule 93) (λ y ws fit follow. refl)) (λ y ws fit follow. refl)) (λ y ws fit follow. refl)) (λ y ws fit follow. refl))
-    range_of (λ (r : Range). (tt, (r.left, (tt, (r.right, tt))))) (λ b. refl) (λ a. refl))
+    range_of (λ (r : RangeBounds). (tt, (r.left, (tt, (r.right, tt))))) (λ b. refl) (λ a. refl))
     (λ r f. (f.1.0, f.1.1.1.0)) (λ r f. (tt, (f.0, (tt, (f.1, tt)))))
 
 -- the other bound

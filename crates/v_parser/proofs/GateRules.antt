@@ -18,7 +18,7 @@ use Rattle.v_tree.specs.declared.gates.PullGate.{PullGate}
 use Rattle.v_tree.specs.declared.gates.Terms.{Terms}
 use Rattle.v_tree.specs.declared.gates.Connection.{Connection}
 use Rattle.v_tree.specs.declared.gates.Connections.{Connections}
-use Rattle.v_tree.specs.declared.gates.Connections.TheVariants.{ByPlace, ByName}
+use Rattle.v_tree.specs.declared.gates.Connections.TheVariants.{ByOrder, ByName}
 use Rattle.v_tree.specs.declared.gates.Inst.{Inst}
 use Rattle.v_tree.specs.declared.gates.Instance.{Instance}
 use Rattle.v_tree.specs.declared.locations.Name.{Name}
@@ -334,7 +334,7 @@ closes_is : (f : Form) → is_mark 41 f ≡ true → f ≡ form.Mark 41
 closes_is (form.Mark b) e = ap form.Mark (eqb-true b 41 e)
 closes_is f e = absurd cc
 
--- connections by place begin with no `.`
+-- connections by order begin with no `.`
 places_dotless : (values : List (Option Expr)) (ws : List Written) → fit.AreSome (fit.IsFitIfThere fit.IsFitExpr) values → closes ws ≡ true → begins (sees_mark 46) (between_commas (written_if_there spell.expr) values ++ ws) ≡ false
 places_dotless [] ws f follow = absurd (omega (arith, f.some))
 places_dotless (None ∷ []) ws f follow = ap (is_mark 46) (closes_is (first_form ws) follow)
@@ -351,19 +351,19 @@ names_dotted (c ∷ list) ws f = refl
 abbrev AreByName : Connections → Type 0
 AreByName c = (list : List Connection) × (c ≡ ByName list) × fit.AreSome fit.IsFitConnection list
 
--- connections by place that fit
-abbrev AreByPlace : Connections → Type 0
-AreByPlace c = (values : List (Option Expr)) × (c ≡ ByPlace values) × fit.AreSome (fit.IsFitIfThere fit.IsFitExpr) values
+-- connections by order that fit
+abbrev AreByOrder : Connections → Type 0
+AreByOrder c = (values : List (Option Expr)) × (c ≡ ByOrder values) × fit.AreSome (fit.IsFitIfThere fit.IsFitExpr) values
 
 -- connections of either kind fit
-connections_of : (c : Connections) → AreByName c ⊎ AreByPlace c → fit.IsFitConnections c
+connections_of : (c : Connections) → AreByName c ⊎ AreByOrder c → fit.IsFitConnections c
 connections_of c (inl f) = subst fit.IsFitConnections (sym f.1) f.2
 connections_of c (inr f) = subst fit.IsFitConnections (sym f.1) f.2
 
 -- which of the two connections are
-connections_by : (c : Connections) → fit.IsFitConnections c → AreByName c ⊎ AreByPlace c
+connections_by : (c : Connections) → fit.IsFitConnections c → AreByName c ⊎ AreByOrder c
 connections_by (ByName list) f = inl (list, refl, f)
-connections_by (ByPlace values) f = inr (values, refl, f)
+connections_by (ByOrder values) f = inr (values, refl, f)
 
 -- the connections of an instance
 connections_rule : Rule read.connections spell.connections fit.IsFitConnections closes
@@ -373,7 +373,7 @@ connections_rule = refit_rule
     (choice_rule (sees_mark 46)
     (follow_rule {may_follow' = closes} (variant_rule (separated_any_rule connection_rule (λ ws. refl)) ByName spell.connections (λ a. refl))
     (λ ws follow. ap (λ (f : Form). not (is_mark 44 f)) (closes_is (first_form ws) follow)))
-    (follow_rule {may_follow' = closes} (variant_rule (separated_any_rule (optional_rule read.begins_expr expr_rule (λ e ws f. expr_begins 64 e ws f)) (λ ws. refl)) ByPlace spell.connections (λ a. refl))
+    (follow_rule {may_follow' = closes} (variant_rule (separated_any_rule (optional_rule read.begins_expr expr_rule (λ e ws f. expr_begins 64 e ws f)) (λ ws. refl)) ByOrder spell.connections (λ a. refl))
     (λ ws follow. ap (λ (f : Form). (not (is_mark 91 f) && not (begins_expr f)) && not (is_mark 44 f)) (closes_is (first_form ws) follow)))
     (λ c ws f follow. ap (λ (d : Connections). begins (sees_mark 46) (spell.connections d ++ ws)) f.1 ∙ names_dotted f.0 ws f.2)
     (λ c ws f follow. ap (λ (d : Connections). begins (sees_mark 46) (spell.connections d ++ ws)) f.1 ∙ places_dotless f.0 ws f.2 follow))
@@ -393,10 +393,10 @@ inst_rule = refit_rule
 
 -- connections and the `)` behind them begin with no word
 connections_first : (c : Connections) → fit.IsFitConnections c → is_wordless (first_form (spell.connections c ++ spell.mark 41 ∷ [])) ≡ true
-connections_first (ByPlace []) f = absurd (omega (arith, f.some))
-connections_first (ByPlace (None ∷ [])) f = refl
-connections_first (ByPlace (None ∷ (v ∷ values))) f = refl
-connections_first (ByPlace (Some e ∷ values)) f = first_more is_wordless (spell.expr e ++ behind_commas (written_if_there spell.expr) values) (spell.mark 41 ∷ []) refl
+connections_first (ByOrder []) f = absurd (omega (arith, f.some))
+connections_first (ByOrder (None ∷ [])) f = refl
+connections_first (ByOrder (None ∷ (v ∷ values))) f = refl
+connections_first (ByOrder (Some e ∷ values)) f = first_more is_wordless (spell.expr e ++ behind_commas (written_if_there spell.expr) values) (spell.mark 41 ∷ []) refl
     (first_more is_wordless (spell.expr e) (behind_commas (written_if_there spell.expr) values) refl (expr_wordless (first_form (spell.expr e)) (expr_first e f.fit.each.0)))
 connections_first (ByName []) f = absurd (omega (arith, f.some))
 connections_first (ByName (c ∷ list)) f = refl

@@ -3,7 +3,7 @@ use Rattle.std.proofs.Common.{◌≡◌, ℕ, suc, ◌<◌, ◌≤◌, Bool, tru
 use Rattle.std.proofs.lemmas.Bool.{not-true, cases_lt}
 use Rattle.v_tree.specs.declared.locations.Location.{Location}
 use Rattle.v_tree.specs.declared.locations.Name.{Name}
-use Rattle.v_tree.specs.declared.expressions.Range.{Range}
+use Rattle.v_tree.specs.declared.expressions.RangeBounds.{RangeBounds}
 use Rattle.v_tree.specs.declared.declarations.Direction.{Direction}
 use Rattle.v_tree.specs.declared.declarations.NetType.{NetType}
 use Rattle.v_tree.specs.declared.declarations.PortDecl.{PortDecl}
@@ -257,7 +257,7 @@ module_item_rule =
 
 -- ---- ports
 
-abbrev ansi_parts : AnsiPort → (Direction × Location) × (Option NetType × (Option Range × Name))
+abbrev ansi_parts : AnsiPort → (Direction × Location) × (Option NetType × (Option RangeBounds × Name))
 ansi_parts p = ((p.direction, p.location), (p.net_type, (p.range, p.name)))
 
 -- `dir [ nettype ] [ range ] Name`

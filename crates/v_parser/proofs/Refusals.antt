@@ -9,7 +9,7 @@ use Rattle.v_tree.specs.Written.{Form, form_of, form_by, slice_of}
 use Rattle.v_tree.specs.Written as form
 use Rattle.v_parser.specs.declared.fault.ParseFault.{ParseFault}
 use Rattle.v_parser.specs.declared.fault.ParseFault.TheVariants.{Unsupported, Syntax, Memory}
-use Rattle.v_parser.specs.Input.{Input, Outcome, Reader, front, front_in, location, next, next_in, is_left_out, refusal, and_then, ◌>>=◌, pure, ◌<$>◌, ◌&◌, refuse, token_by, token, where_true, is_mark, is_word, is_finish, name_in, number_in, based_in, optional, choice, commas_from, commas, separated, many_from, many_after, many, some, here}
+use Rattle.v_parser.specs.Input.{Input, Outcome, Reader, front, front_in, next, next_in, is_left_out, refusal, and_then, ◌>>=◌, pure, ◌<$>◌, ◌&◌, refuse, token_by, token, where_true, is_mark, is_word, is_finish, name_in, number_in, based_in, optional, choice, commas_from, commas, separated, many_from, many_after, many, some, here}
 use Rattle.v_parser.specs.Input as input
 use Rattle.v_parser.specs.Words as words
 use Rattle.v_parser.specs.Expressions as read
@@ -444,7 +444,7 @@ connection_safe : Safe gate.connection
 unfolding gate.connection
 connection_safe = map_safe _ (pair_safe (mark_safe 46) (pair_safe name_safe (pair_safe (skip_safe 40) (pair_safe (optional_safe _ expr_safe) (skip_safe 41)))))
 
--- connections by name, or by place
+-- connections by name, or by order
 connections_safe : Safe gate.connections
 unfolding gate.connections
 connections_safe = choice_safe _ (map_safe _ (separated_safe connection_safe)) (map_safe _ (separated_safe (optional_safe _ expr_safe)))

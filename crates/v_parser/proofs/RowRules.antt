@@ -2,6 +2,7 @@
 use Rattle.std.proofs.Common.{◌≡◌, ℕ, ◌<◌, ◌==◌, Bool, true, false, not, ◌&&◌, if◌then◌else◌, List, [], ◌∷◌, ◌++◌, length, Option, Some, None, ◌⊎◌, inl, inr, refl, sym, ap, subst, ◌∙◌, arith, append-nil}
 use Rattle.std.specs.List.{AllByRecursion}
 use Rattle.std.proofs.lemmas.Bool.{eqb-true}
+use Rattle.std.proofs.lemmas.Option.{same_Some}
 use Rattle.v_tree.specs.declared.locations.Location.{Location}
 use Rattle.v_tree.specs.declared.primitives.PlacedRow.{PlacedRow}
 use Rattle.udp_table.specs.declared.symbols.Base.{Base}
@@ -18,7 +19,7 @@ use Rattle.v_parser.specs.Input.{is_symbol, symbol_in}
 use Rattle.v_parser.specs.Primitives.{coded, meant, sees_symbol, ends_table}
 use Rattle.v_parser.specs.Primitives as read
 use Rattle.v_parser.proofs.Rules.{Rule, Follow, anything, begins, first_form, IsOpen, bare_rule, map_rule, variant_rule, refit_rule, respell_rule, pair_rule, optional_rule, choice_rule, some_rule, here_rule}
-use Rattle.v_parser.proofs.TokenRules.{some_is, skip_symbol_rule}
+use Rattle.v_parser.proofs.TokenRules.{skip_symbol_rule}
 
 -- what a table gives for a symbol is as each entry is
 coded_is : {A : Type 0} (Is : ℕ → A → Type 0) (table : List (ℕ × A)) (byte : ℕ) (x : A) → coded table byte ≡ Some x → AllByRecursion (λ (entry : ℕ × A). Is entry.0 entry.1) table → Is byte x
@@ -26,7 +27,7 @@ coded_is Is [] byte x e all = absurd cc
 coded_is {A} Is (entry ∷ entries) byte x e all = by (byte == entry.0) (λ h. eqb-true byte entry.0 h) (λ later. coded_is Is entries byte x later all.1) e
   where
     by : (b : Bool) → (b ≡ true → byte ≡ entry.0) → (coded entries byte ≡ Some x → Is byte x) → (if b then Some entry.1 else coded entries byte) ≡ Some x → Is byte x
-    by true same later f = subst (Is byte) (some_is entry.1 x f) (subst (λ (n : ℕ). Is n entry.1) (sym (same refl)) all.0)
+    by true same later f = subst (Is byte) (same_Some entry.1 x f) (subst (λ (n : ℕ). Is n entry.1) (sym (same refl)) all.0)
     by false same later f = later f
 
 -- a token that stands for something is a symbol that does

@@ -4,6 +4,7 @@ use Rattle.std.specs.List.{AllByRecursion}
 use Rattle.std.specs.Str.{bytes_eq}
 use Rattle.std.proofs.lemmas.Bool.{eqb-true, eq-eqb}
 use Rattle.std.proofs.lemmas.Slice.Eq.{bytes_eq-Decides}
+use Rattle.std.proofs.lemmas.Option.{same_Some}
 use Rattle.v_lexer.specs.declared.values.Literal.{Literal}
 use Rattle.v_tree.specs.declared.locations.Location.{Location}
 use Rattle.v_tree.specs.declared.locations.Name.{Name}
@@ -39,20 +40,16 @@ use Rattle.v_parser.specs.Words.{named, chosen, level_with}
 use Rattle.v_parser.specs.Words as stands
 use Rattle.v_parser.proofs.Rules.{Rule, anything, token_rule, bare_rule, map_rule}
 
--- what is there is one thing
-pub some_is : {A : Type 0} (x y : A) → Some x ≡ Some y → x ≡ y
-some_is x y e = cc
-
 -- ---- names and numbers
 
 -- a token with a name is a name
 pub name_is : (f : Form) (x : List ℕ) → name_in f ≡ Some x → f ≡ form.Name x
-name_is (form.Name text) x e = ap form.Name (some_is text x e)
+name_is (form.Name text) x e = ap form.Name (same_Some text x e)
 name_is f x e = absurd cc
 
 -- a name that was read fits
 name_fits : (f : Form) (x : List ℕ) → fit.IsSoundForm f → name_in f ≡ Some x → fit.IsNameText x
-name_fits (form.Name text) x sound e = subst fit.IsNameText (some_is text x e) sound
+name_fits (form.Name text) x sound e = subst fit.IsNameText (same_Some text x e) sound
 name_fits f x sound e = absurd cc
 
 abbrev name_of : List ℕ × Location → Name
@@ -68,12 +65,12 @@ name_rule = map_rule (token_rule name_in form.Name fit.IsNameText refl name_is n
 
 -- a token with a number is a number
 pub number_is : (f : Form) (x : ℕ) → number_in f ≡ Some x → f ≡ form.Number x
-number_is (form.Number n) x e = ap form.Number (some_is n x e)
+number_is (form.Number n) x e = ap form.Number (same_Some n x e)
 number_is f x e = absurd cc
 
 -- a number that was read fits
 number_fits : (f : Form) (x : ℕ) → fit.IsSoundForm f → number_in f ≡ Some x → fit.IsNumber x
-number_fits (form.Number n) x sound e = subst fit.IsNumber (some_is n x e) sound
+number_fits (form.Number n) x sound e = subst fit.IsNumber (same_Some n x e) sound
 number_fits f x sound e = absurd cc
 
 -- a number
@@ -88,12 +85,12 @@ placed_number_rule = token_rule number_in form.Number fit.IsNumber refl number_i
 
 -- a token with a based number is a based number
 pub based_is : (f : Form) (x : Literal) → based_in f ≡ Some x → f ≡ form.Based x
-based_is (form.Based n) x e = ap form.Based (some_is n x e)
+based_is (form.Based n) x e = ap form.Based (same_Some n x e)
 based_is f x e = absurd cc
 
 -- a based number that was read fits
 based_fits : (f : Form) (x : Literal) → fit.IsSoundForm f → based_in f ≡ Some x → fit.IsLiteral x
-based_fits (form.Based n) x sound e = subst fit.IsLiteral (some_is n x e) sound
+based_fits (form.Based n) x sound e = subst fit.IsLiteral (same_Some n x e) sound
 based_fits f x sound e = absurd cc
 
 -- a based number, with its location
@@ -207,7 +204,7 @@ named_is {A} word_of (entry ∷ entries) word x e all = by (bytes_eq word entry.
   where
     by : (b : Bool) → (b ≡ true → word ≡ entry.0) → (if b then Some entry.1 else named entries word) ≡ Some x → (named entries word ≡ Some x → word ≡ word_of x) → word ≡ word_of x
     by true same e later =
-        let first : entry.1 ≡ x = some_is entry.1 x e in
+        let first : entry.1 ≡ x = same_Some entry.1 x e in
         same refl ∙ all.0 ∙ ap word_of first
     by false same e later = later e
 

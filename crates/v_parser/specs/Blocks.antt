@@ -12,7 +12,8 @@ ends_block f = is_word (codes "endspecify") f || is_finish f
 -- how many tokens stand before the end of a block, added to those that were passed, in so many turns at most
 unfoldable pub passed_from : ℕ → ℕ → Reader ℕ
 passed_from zero passed = pure passed
-passed_from (suc n) passed = λ i. if ends_block (front i) then Ok (passed, i) else passed_from n (passed + 1) (next i)
+passed_from (suc n) passed = λ i. if ends_block (front i) then Ok (passed, i)
+    else passed_from n (passed + 1) (next i)
 
 -- the number of tokens before the end of a block, which are passed over
 unfoldable pub passed : Reader ℕ

@@ -2,7 +2,7 @@
 use Rattle.std.specs.Prelude.{Bool, ◌||◌, List, Option, codes}
 use Rattle.v_tree.specs.declared.locations.Location.{Location}
 use Rattle.v_tree.specs.declared.locations.Name.{Name}
-use Rattle.v_tree.specs.declared.expressions.Range.{Range}
+use Rattle.v_tree.specs.declared.expressions.RangeBounds.{RangeBounds}
 use Rattle.v_tree.specs.declared.expressions.Expr.{Expr}
 use Rattle.v_tree.specs.declared.expressions.Target.{Target}
 use Rattle.v_tree.specs.declared.drives.DriveStrength.{DriveStrength}
@@ -42,14 +42,24 @@ net_type = (λ z. z.0) <$> token net_type_in
 unfoldable pub vector_word_named : Reader VectorWord
 vector_word_named = (λ z. z.0) <$> token vector_word_in
 
-abbrev pub port_decl_of : (Direction × Location) × (Option NetType × (Option Range × (List Name × Unit {0}))) → PortDecl
-port_decl_of z = record { location = z.0.1; direction = z.0.0; net_type = z.1.0; range = z.1.1.0; names = z.1.1.1.0 }
+abbrev pub port_decl_of : (Direction × Location)
+    × (Option NetType × (Option RangeBounds × (List Name × Unit {0}))) → PortDecl
+port_decl_of z =
+    record {
+      location = z.0.1;
+      direction = z.0.0;
+      net_type = z.1.0;
+      range = z.1.1.0;
+      names = z.1.1.1.0;
+    }
 
 -- `dir [ nettype ] [ range ] Name , .. ;`
 unfoldable pub port_decl : Reader PortDecl
-port_decl = port_decl_of <$> (token direction_in & optional sees_net_type net_type & optional (sees_mark 91) range & separated name & skip 59)
+port_decl = port_decl_of
+    <$> (token direction_in & optional sees_net_type net_type & optional (sees_mark 91) range
+    & separated name & skip 59)
 
-abbrev pub vector_range_of : Option VectorWord × Range → VectorRange
+abbrev pub vector_range_of : Option VectorWord × RangeBounds → VectorRange
 vector_range_of z = record { word = z.0; range = z.1 }
 
 -- a range, with a word before it or without one
@@ -75,19 +85,44 @@ sees_value f g = is_mark 61 g
 unfoldable pub declared : Reader Declared
 declared = choice sees_value (kind.Valued <$> separated valued_name) (kind.Names <$> separated name)
 
-abbrev pub net_decl_of : (NetType × Location) × (Option DriveStrength × (Option VectorRange × (Option DelaySpec × (Declared × Unit {0})))) → NetDecl
-net_decl_of z = record { location = z.0.1; net_type = z.0.0; drive = z.1.0; vector_range = z.1.1.0; delay = z.1.1.1.0; declared = z.1.1.1.1.0 }
+abbrev pub net_decl_of : (NetType × Location)
+    × (Option DriveStrength × (Option VectorRange × (Option DelaySpec × (Declared × Unit {0}))))
+    → NetDecl
+net_decl_of z =
+    record {
+      location = z.0.1;
+      net_type = z.0.0;
+      drive = z.1.0;
+      vector_range = z.1.1.0;
+      delay = z.1.1.1.0;
+      declared = z.1.1.1.1.0;
+    }
 
 -- `nettype [ drive ] [ vector_range ] [ delay ] declared ;`
 unfoldable pub net_decl : Reader NetDecl
-net_decl = net_decl_of <$> (token net_type_in & optional (sees_mark 40) drive & optional begins_vector_range vector_range & optional (sees_mark 35) delay_spec & declared & skip 59)
+net_decl = net_decl_of
+    <$> (token net_type_in & optional (sees_mark 40) drive
+    & optional begins_vector_range vector_range & optional (sees_mark 35) delay_spec & declared
+    & skip 59)
 
-abbrev pub trireg_of : Location × (Option Charge × (Option VectorRange × (Option DelaySpec × (List Name × Unit {0})))) → TriregDecl
-trireg_of z = record { location = z.0; charge = z.1.0; vector_range = z.1.1.0; delay = z.1.1.1.0; names = z.1.1.1.1.0 }
+abbrev pub trireg_of : Location
+    × (Option Charge × (Option VectorRange × (Option DelaySpec × (List Name × Unit {0}))))
+    → TriregDecl
+trireg_of z =
+    record {
+      location = z.0;
+      charge = z.1.0;
+      vector_range = z.1.1.0;
+      delay = z.1.1.1.0;
+      names = z.1.1.1.1.0;
+    }
 
 -- `trireg [ charge ] [ vector_range ] [ delay ] Name , .. ;`
 unfoldable pub trireg_decl : Reader TriregDecl
-trireg_decl = trireg_of <$> (word (codes "trireg") & optional (sees_mark 40) charge & optional begins_vector_range vector_range & optional (sees_mark 35) delay_spec & separated name & skip 59)
+trireg_decl = trireg_of
+    <$> (word (codes "trireg") & optional (sees_mark 40) charge
+    & optional begins_vector_range vector_range & optional (sees_mark 35) delay_spec
+    & separated name & skip 59)
 
 abbrev pub pair_of : Target × (Unit {0} × Expr) → Pair
 pair_of z = record { target = z.0; value = z.1.1 }
@@ -96,9 +131,12 @@ pair_of z = record { target = z.0; value = z.1.1 }
 unfoldable pub pair : Reader Pair
 pair = pair_of <$> (target & skip 61 & expr)
 
-abbrev pub assign_of : Location × (Option DriveStrength × (Option DelaySpec × (List Pair × Unit {0}))) → AssignItem
+abbrev pub assign_of : Location
+    × (Option DriveStrength × (Option DelaySpec × (List Pair × Unit {0}))) → AssignItem
 assign_of z = record { location = z.0; drive = z.1.0; delay = z.1.1.0; pairs = z.1.1.1.0 }
 
 -- `assign [ drive ] [ delay ] pair , .. ;`
 unfoldable pub assign_item : Reader AssignItem
-assign_item = assign_of <$> (word (codes "assign") & optional (sees_mark 40) drive & optional (sees_mark 35) delay_spec & separated pair & skip 59)
+assign_item = assign_of
+    <$> (word (codes "assign") & optional (sees_mark 40) drive & optional (sees_mark 35) delay_spec
+    & separated pair & skip 59)

@@ -9,7 +9,8 @@ use Rattle.v_parser.specs.Primitives.{udp}
 
 -- a directive, or a module
 unfoldable pub others : Reader Description
-others = choice sees_some_directive (described.Directive <$> directive) (described.Module <$> module_at)
+others =
+    choice sees_some_directive (described.Directive <$> directive) (described.Module <$> module_at)
 
 -- a module, a primitive or a directive
 unfoldable pub description : Reader Description

@@ -32,7 +32,8 @@ sees_some_directive f g = is_some (directive_in f)
 -- ---- cells
 
 unfoldable pub cell_table : List (List ℕ × CellWord)
-cell_table = (codes "`celldefine", cells.Celldefine) ∷ (codes "`endcelldefine", cells.Endcelldefine) ∷ []
+cell_table = (codes "`celldefine", cells.Celldefine)
+    ∷ (codes "`endcelldefine", cells.Endcelldefine) ∷ []
 
 unfoldable pub cell_of : List ℕ → Option CellWord
 cell_of bytes = named cell_table bytes
@@ -51,7 +52,8 @@ cell = cell_with <$> token cell_in
 
 -- the numbers that a scale may begin with
 unfoldable pub factor_of : ℕ → Option ScaleFactor
-factor_of n = if n == 1 then Some One else if n == 10 then Some Ten else if n == 100 then Some Hundred else None
+factor_of n = if n == 1 then Some One else if n == 10 then Some Ten
+    else if n == 100 then Some Hundred else None
 
 abbrev pub factor_in : Form → Option ScaleFactor
 factor_in (form.Number n) = factor_of n
@@ -59,7 +61,9 @@ factor_in _ = None
 
 -- the names of units
 unfoldable pub unit_table : List (List ℕ × TimeUnit)
-unit_table = (codes "s", units.Second) ∷ (codes "ms", units.Millisecond) ∷ (codes "us", units.Microsecond) ∷ (codes "ns", units.Nanosecond) ∷ (codes "ps", units.Picosecond) ∷ (codes "fs", units.Femtosecond) ∷ []
+unit_table = (codes "s", units.Second) ∷ (codes "ms", units.Millisecond)
+    ∷ (codes "us", units.Microsecond) ∷ (codes "ns", units.Nanosecond)
+    ∷ (codes "ps", units.Picosecond) ∷ (codes "fs", units.Femtosecond) ∷ []
 
 unfoldable pub unit_of : List ℕ → Option TimeUnit
 unit_of name = named unit_table name
@@ -107,7 +111,10 @@ timescale = timescale_of <$> (directive_word (codes "`timescale") & scale & skip
 -- ---- the type of implicit nets
 
 unfoldable pub implicit_table : List (List ℕ × ImplicitNetType)
-implicit_table = (codes "wire", implicit.Wire) ∷ (codes "tri", implicit.Tri) ∷ (codes "tri0", implicit.Tri0) ∷ (codes "tri1", implicit.Tri1) ∷ (codes "wand", implicit.Wand) ∷ (codes "triand", implicit.Triand) ∷ (codes "wor", implicit.Wor) ∷ (codes "trior", implicit.Trior) ∷ (codes "trireg", implicit.Trireg) ∷ []
+implicit_table = (codes "wire", implicit.Wire) ∷ (codes "tri", implicit.Tri)
+    ∷ (codes "tri0", implicit.Tri0) ∷ (codes "tri1", implicit.Tri1) ∷ (codes "wand", implicit.Wand)
+    ∷ (codes "triand", implicit.Triand) ∷ (codes "wor", implicit.Wor)
+    ∷ (codes "trior", implicit.Trior) ∷ (codes "trireg", implicit.Trireg) ∷ []
 
 unfoldable pub implicit_of : List ℕ → Option ImplicitNetType
 implicit_of word = named implicit_table word
@@ -136,11 +143,16 @@ default_nettype = default_nettype_of <$> (directive_word (codes "`default_nettyp
 
 -- `` `resetall ``, or a cell
 unfoldable pub resets : Reader Directive
-resets = choice (sees_directive (codes "`resetall")) (directives.Resetall <$> directive_word (codes "`resetall")) (directives.Cell <$> cell)
+resets =
+    choice (sees_directive (codes "`resetall"))
+    (directives.Resetall <$> directive_word (codes "`resetall")) (directives.Cell <$> cell)
 
 unfoldable pub defaults : Reader Directive
-defaults = choice (sees_directive (codes "`default_nettype")) (directives.DefaultNettype <$> default_nettype) resets
+defaults =
+    choice (sees_directive (codes "`default_nettype"))
+    (directives.DefaultNettype <$> default_nettype) resets
 
 -- a directive
 unfoldable pub directive : Reader Directive
-directive = choice (sees_directive (codes "`timescale")) (directives.Timescale <$> timescale) defaults
+directive =
+    choice (sees_directive (codes "`timescale")) (directives.Timescale <$> timescale) defaults

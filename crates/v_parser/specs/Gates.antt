@@ -16,7 +16,7 @@ use Rattle.v_tree.specs.declared.gates.GateKind.TheVariants as kind
 use Rattle.v_tree.specs.declared.gates.GateItem.{GateItem}
 use Rattle.v_tree.specs.declared.gates.Connection.{Connection}
 use Rattle.v_tree.specs.declared.gates.Connections.{Connections}
-use Rattle.v_tree.specs.declared.gates.Connections.TheVariants.{ByPlace, ByName}
+use Rattle.v_tree.specs.declared.gates.Connections.TheVariants.{ByOrder, ByName}
 use Rattle.v_tree.specs.declared.gates.Inst.{Inst}
 use Rattle.v_tree.specs.declared.gates.Instance.{Instance}
 use Rattle.v_tree.specs.Written.{Form}
@@ -38,22 +38,32 @@ gates_of location kind gates = record { location = location; kind = kind; gates 
 
 -- `logic [ drive ] [ delay ] terms , .. ;`
 unfoldable pub logic_item : Reader GateItem
-logic_item = (λ (z : (LogicGate × Location) × (Option DriveStrength × (Option DelaySpec × (List Terms × Unit {0})))). gates_of z.0.1 (kind.Logic z.0.0 z.1.0 z.1.1.0) z.1.1.1.0)
-    <$> (token logic_in & optional sees_drive drive & optional (sees_mark 35) delay_spec & separated terms & skip 59)
+logic_item =
+    (λ (z : (LogicGate × Location)
+    × (Option DriveStrength × (Option DelaySpec × (List Terms × Unit {0})))). gates_of z.0.1
+    (kind.Logic z.0.0 z.1.0 z.1.1.0) z.1.1.1.0)
+    <$> (token logic_in & optional sees_drive drive & optional (sees_mark 35) delay_spec
+    & separated terms & skip 59)
 
 -- `switch [ delay ] terms , .. ;`
 unfoldable pub switch_item : Reader GateItem
-switch_item = (λ (z : (Switch × Location) × (Option DelaySpec × (List Terms × Unit {0}))). gates_of z.0.1 (kind.Switch z.0.0 z.1.0) z.1.1.0)
+switch_item =
+    (λ (z : (Switch × Location) × (Option DelaySpec × (List Terms × Unit {0}))). gates_of z.0.1
+    (kind.Switch z.0.0 z.1.0) z.1.1.0)
     <$> (token switch_in & optional (sees_mark 35) delay_spec & separated terms & skip 59)
 
 -- `tran terms , .. ;`
 unfoldable pub tran_item : Reader GateItem
-tran_item = (λ (z : (TranGate × Location) × (List Terms × Unit {0})). gates_of z.0.1 (kind.Tran z.0.0) z.1.0)
+tran_item =
+    (λ (z : (TranGate × Location) × (List Terms × Unit {0})). gates_of z.0.1
+    (kind.Tran z.0.0) z.1.0)
     <$> (token tran_in & separated terms & skip 59)
 
 -- `pull [ ( level [ , level ] ) ] terms , .. ;`
 unfoldable pub pull_item : Reader GateItem
-pull_item = (λ (z : (PullGate × Location) × (Option PullLevels × (List Terms × Unit {0}))). gates_of z.0.1 (kind.Pull z.0.0 z.1.0) z.1.1.0)
+pull_item =
+    (λ (z : (PullGate × Location) × (Option PullLevels × (List Terms × Unit {0}))). gates_of z.0.1
+    (kind.Pull z.0.0 z.1.0) z.1.1.0)
     <$> (token pull_in & optional sees_drive pull_levels & separated terms & skip 59)
 
 -- the first token of an expression
@@ -67,9 +77,11 @@ connection_of z = record { location = z.0; port = z.1.0; value = z.1.1.1.0 }
 unfoldable pub connection : Reader Connection
 connection = connection_of <$> (mark 46 & name & skip 40 & optional begins_expr expr & skip 41)
 
--- connections by name, or by place
+-- connections by name, or by order
 unfoldable pub connections : Reader Connections
-connections = choice (sees_mark 46) (ByName <$> separated connection) (ByPlace <$> separated (optional begins_expr expr))
+connections =
+    choice (sees_mark 46) (ByName <$> separated connection)
+    (ByOrder <$> separated (optional begins_expr expr))
 
 abbrev pub inst_of : Option Name × (Location × (Connections × Unit {0})) → Inst
 inst_of z = record { name = z.0; paren = z.1.0; connections = z.1.1.0 }
@@ -78,9 +90,12 @@ inst_of z = record { name = z.0; paren = z.1.0; connections = z.1.1.0 }
 unfoldable pub inst : Reader Inst
 inst = inst_of <$> (optional sees_name name & mark 40 & connections & skip 41)
 
-abbrev pub instance_of : Name × (Option DriveStrength × (Option DelaySpec × (List Inst × Unit {0}))) → Instance
+abbrev pub instance_of : Name
+    × (Option DriveStrength × (Option DelaySpec × (List Inst × Unit {0}))) → Instance
 instance_of z = record { name = z.0; drive = z.1.0; delay = z.1.1.0; instances = z.1.1.1.0 }
 
 -- `Name [ drive ] [ delay ] inst , .. ;`
 unfoldable pub instance : Reader Instance
-instance = instance_of <$> (name & optional sees_drive drive & optional (sees_mark 35) delay_spec & separated inst & skip 59)
+instance = instance_of
+    <$> (name & optional sees_drive drive & optional (sees_mark 35) delay_spec & separated inst
+    & skip 59)

@@ -249,7 +249,8 @@ passed_comma i = if is_mark 44 (front i) then next i else i
 -- parts, each behind a comma, put behind those that were found, in so many turns at most
 unfoldable pub commas_from : {A : Type 0} → Reader A → ℕ → List A → Reader (List A)
 commas_from p zero found = pure found
-commas_from p (suc n) found = λ i. if is_mark 44 (front i) then (p >>= λ x. commas_from p n (found ++ x ∷ [])) (next i) else Ok (found, i)
+commas_from p (suc n) found = λ i. if is_mark 44 (front i)
+    then (p >>= λ x. commas_from p n (found ++ x ∷ [])) (next i) else Ok (found, i)
 
 -- parts, each behind a comma, put behind those that were found: each takes a token, so as many turns as tokens are enough
 unfoldable pub commas : {A : Type 0} → Reader A → List A → Reader (List A)
@@ -262,7 +263,8 @@ separated p = p >>= λ x. commas p (x ∷ [])
 -- parts up to a token that ends them, in so many turns at most
 unfoldable pub many_from : {A : Type 0} → (Form → Bool) → Reader A → ℕ → List A → Reader (List A)
 many_from stops p zero found = pure found
-many_from stops p (suc n) found = λ i. if stops (front i) then Ok (found, i) else (p >>= λ x. many_from stops p n (found ++ x ∷ [])) i
+many_from stops p (suc n) found = λ i. if stops (front i) then Ok (found, i)
+    else (p >>= λ x. many_from stops p n (found ++ x ∷ [])) i
 
 -- parts up to a token that ends them, put behind those that were found
 unfoldable pub many_after : {A : Type 0} → (Form → Bool) → Reader A → List A → Reader (List A)

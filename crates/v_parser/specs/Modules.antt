@@ -2,7 +2,7 @@
 use Rattle.std.specs.Prelude.{ℕ, Bool, List, [], Option, codes}
 use Rattle.v_tree.specs.declared.locations.Location.{Location}
 use Rattle.v_tree.specs.declared.locations.Name.{Name}
-use Rattle.v_tree.specs.declared.expressions.Range.{Range}
+use Rattle.v_tree.specs.declared.expressions.RangeBounds.{RangeBounds}
 use Rattle.v_tree.specs.declared.declarations.Direction.{Direction}
 use Rattle.v_tree.specs.declared.declarations.NetType.{NetType}
 use Rattle.v_tree.specs.declared.modules.ModuleWord.{ModuleWord}
@@ -28,7 +28,9 @@ sees_word bytes f g = is_word bytes f
 
 -- blocks that are passed over, or instances
 unfoldable pub blocks : Reader Item
-blocks = choice (sees_word (codes "specify")) (item.Specify <$> specify_block) (item.Instances <$> instance)
+blocks =
+    choice (sees_word (codes "specify")) (item.Specify <$> specify_block)
+    (item.Instances <$> instance)
 
 -- cells, or what comes later
 unfoldable pub cells : Reader Item
@@ -61,12 +63,22 @@ nets = choice sees_net_type (item.Nets <$> net_decl) charged
 unfoldable pub module_item : Reader Item
 module_item = choice sees_direction (item.Ports <$> port_decl) nets
 
-abbrev pub ansi_port_of : (Direction × Location) × (Option NetType × (Option Range × Name)) → AnsiPort
-ansi_port_of z = record { location = z.0.1; direction = z.0.0; net_type = z.1.0; range = z.1.1.0; name = z.1.1.1 }
+abbrev pub ansi_port_of : (Direction × Location) × (Option NetType × (Option RangeBounds × Name))
+    → AnsiPort
+ansi_port_of z =
+    record {
+      location = z.0.1;
+      direction = z.0.0;
+      net_type = z.1.0;
+      range = z.1.1.0;
+      name = z.1.1.1;
+    }
 
 -- `dir [ nettype ] [ range ] Name`
 unfoldable pub ansi_port : Reader AnsiPort
-ansi_port = ansi_port_of <$> (token direction_in & optional sees_net_type net_type & optional (sees_mark 91) range & name)
+ansi_port = ansi_port_of
+    <$> (token direction_in & optional sees_net_type net_type & optional (sees_mark 91) range
+    & name)
 
 -- a port, or a name alone
 unfoldable pub ansi_entry : Reader AnsiEntry
@@ -82,7 +94,9 @@ named_ports = (λ z. ports.Names z.1.0) <$> (skip 40 & separated name & skip 41)
 
 -- `( port , .. )`
 unfoldable pub ansi_ports : Reader Ports
-ansi_ports = (λ (z : Unit {0} × (AnsiPort × (List AnsiEntry × Unit {0}))). ports.Ansi z.1.0 z.1.1.0) <$> (skip 40 & ansi_port & commas ansi_entry [] & skip 41)
+ansi_ports =
+    (λ (z : Unit {0} × (AnsiPort × (List AnsiEntry × Unit {0}))). ports.Ansi z.1.0 z.1.1.0)
+    <$> (skip 40 & ansi_port & commas ansi_entry [] & skip 41)
 
 -- the second of two tokens is the mark
 abbrev pub sees_mark_second : ℕ → Form → Form → Bool
@@ -93,7 +107,8 @@ sees_name_second f g = is_name g
 
 -- the ports of a header, in parentheses
 unfoldable pub ports_within : Reader Ports
-ports_within = choice (sees_mark_second 41) empty_ports (choice sees_name_second named_ports ansi_ports)
+ports_within =
+    choice (sees_mark_second 41) empty_ports (choice sees_name_second named_ports ansi_ports)
 
 -- the ports of a header
 unfoldable pub header_ports : Reader Ports
@@ -102,9 +117,13 @@ header_ports = choice (sees_mark 40) ports_within (pure ports.Absent)
 abbrev pub ends_module : Form → Bool
 ends_module f = is_word (codes "endmodule") f
 
-abbrev pub module_of : (ModuleWord × Location) × (Name × (Ports × (Unit {0} × (List Item × Unit {0})))) → Module
-module_of z = record { location = z.0.1; word = z.0.0; name = z.1.0; ports = z.1.1.0; items = z.1.1.1.1.0 }
+abbrev pub module_of : (ModuleWord × Location)
+    × (Name × (Ports × (Unit {0} × (List Item × Unit {0})))) → Module
+module_of z =
+    record { location = z.0.1; word = z.0.0; name = z.1.0; ports = z.1.1.0; items = z.1.1.1.1.0 }
 
 -- `module Name [ ports ] ; { item } endmodule`
 unfoldable pub module_at : Reader Module
-module_at = module_of <$> (token opening_in & name & header_ports & skip 59 & many ends_module module_item & skip_word (codes "endmodule"))
+module_at = module_of
+    <$> (token opening_in & name & header_ports & skip 59 & many ends_module module_item
+    & skip_word (codes "endmodule"))

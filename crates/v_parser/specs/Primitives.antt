@@ -35,7 +35,8 @@ meant stands_for None = None
 meant stands_for (Some byte) = stands_for byte
 
 unfoldable pub base_table : List (ℕ × Base)
-base_table = (48, bases.Zero) ∷ (49, bases.One) ∷ (120, bases.X) ∷ (63, bases.Any) ∷ (98, bases.Both) ∷ []
+base_table = (48, bases.Zero) ∷ (49, bases.One) ∷ (120, bases.X) ∷ (63, bases.Any)
+    ∷ (98, bases.Both) ∷ []
 
 unfoldable pub base_of : ℕ → Option Base
 base_of byte = coded base_table byte
@@ -45,7 +46,9 @@ base_in f = meant base_of (symbol_in f)
 
 -- the symbols that stand for a field alone
 unfoldable pub sym_table : List (ℕ × Sym)
-sym_table = (48, syms.Zero) ∷ (49, syms.One) ∷ (120, syms.X) ∷ (63, syms.Any) ∷ (98, syms.Both) ∷ (45, syms.Same) ∷ (114, syms.Rise) ∷ (102, syms.Fall) ∷ (112, syms.Pos) ∷ (110, syms.Neg) ∷ (42, syms.Change) ∷ []
+sym_table = (48, syms.Zero) ∷ (49, syms.One) ∷ (120, syms.X) ∷ (63, syms.Any) ∷ (98, syms.Both)
+    ∷ (45, syms.Same) ∷ (114, syms.Rise) ∷ (102, syms.Fall) ∷ (112, syms.Pos) ∷ (110, syms.Neg)
+    ∷ (42, syms.Change) ∷ []
 
 unfoldable pub sym_of : ℕ → Option Sym
 sym_of byte = coded sym_table byte
@@ -123,7 +126,9 @@ flag bytes = is_there <$> optional (sees_word bytes) (skip_word bytes)
 
 -- a literal
 unfoldable pub lit : Reader Lit
-lit = choice sees_number ((λ z. literal.Number z.1 z.0) <$> placed_number) ((λ z. literal.Based z.1 z.0) <$> placed_based)
+lit =
+    choice sees_number ((λ z. literal.Number z.1 z.0) <$> placed_number)
+    ((λ z. literal.Based z.1 z.0) <$> placed_based)
 
 -- `= lit`
 unfoldable pub start : Reader Lit
@@ -143,12 +148,15 @@ names_of z = ports.Names z.1.0
 unfoldable pub named_header : Reader UdpPorts
 named_header = names_of <$> (skip 40 & separated name & skip 41)
 
-abbrev pub declared_of : Unit {0} × (Unit {0} × (Bool × (Name × (Option Lit × (List UdpInput × Unit {0}))))) → UdpPorts
+abbrev pub declared_of : Unit {0}
+    × (Unit {0} × (Bool × (Name × (Option Lit × (List UdpInput × Unit {0}))))) → UdpPorts
 declared_of z = ports.Declared z.1.1.0 z.1.1.1.0 z.1.1.1.1.0 z.1.1.1.1.1.0
 
 -- `( output [ reg ] Name [ = lit ] { , [ input ] Name } )`
 unfoldable pub declared_header : Reader UdpPorts
-declared_header = declared_of <$> (skip 40 & skip_word (codes "output") & flag (codes "reg") & name & optional (sees_mark 61) start & commas udp_input [] & skip 41)
+declared_header = declared_of
+    <$> (skip 40 & skip_word (codes "output") & flag (codes "reg") & name
+    & optional (sees_mark 61) start & commas udp_input [] & skip 41)
 
 -- the second of two tokens is the word
 abbrev pub sees_word_second : List ℕ → Form → Form → Bool
@@ -163,7 +171,9 @@ output_of z = item.Output z.0 z.1.0 z.1.1.0 z.1.1.1.0
 
 -- `output [ reg ] Name [ = lit ] ;`
 unfoldable pub output_item : Reader UdpItem
-output_item = output_of <$> (word (codes "output") & flag (codes "reg") & name & optional (sees_mark 61) start & skip 59)
+output_item = output_of
+    <$> (word (codes "output") & flag (codes "reg") & name & optional (sees_mark 61) start
+    & skip 59)
 
 abbrev pub inputs_of : Location × (List Name × Unit {0}) → UdpItem
 inputs_of z = item.Input z.0 z.1.0
@@ -189,7 +199,8 @@ udp_item = choice (sees_word (codes "output")) output_item other_item
 
 -- another token than one that begins a declaration
 abbrev pub ends_items : Form → Bool
-ends_items f = not (is_word (codes "output") f || (is_word (codes "input") f || is_word (codes "reg") f))
+ends_items f =
+    not (is_word (codes "output") f || (is_word (codes "input") f || is_word (codes "reg") f))
 
 abbrev pub initial_of : Location × (Name × (Unit {0} × (Lit × Unit {0}))) → UdpInitial
 initial_of z = record { location = z.0; name = z.1.0; value = z.1.1.1.0 }
@@ -202,21 +213,34 @@ initial = initial_of <$> (word (codes "initial") & name & skip 61 & lit & skip 5
 
 -- `table { row } endtable`
 unfoldable pub table : Reader (List PlacedRow)
-table = (λ z. z.1.0) <$> (skip_word (codes "table") & many ends_table placed_row & skip_word (codes "endtable"))
+table = (λ z. z.1.0)
+    <$> (skip_word (codes "table") & many ends_table placed_row & skip_word (codes "endtable"))
 
 -- `endprimitive`
 unfoldable pub ending : Reader (Unit {0})
 ending = skip_word (codes "endprimitive")
 
-abbrev pub body_of : List UdpItem × (Option UdpInitial × (List PlacedRow × Unit {0})) → List UdpItem × Option UdpInitial × List PlacedRow
+abbrev pub body_of : List UdpItem × (Option UdpInitial × (List PlacedRow × Unit {0}))
+    → List UdpItem × Option UdpInitial × List PlacedRow
 body_of z = (z.0, z.1.0, z.1.1.0)
 
 -- `{ declaration } [ initial ] table { row } endtable endprimitive`
 unfoldable pub body : Reader (List UdpItem × Option UdpInitial × List PlacedRow)
-body = body_of <$> (many ends_items udp_item & optional (sees_word (codes "initial")) initial & table & ending)
+body = body_of
+    <$> (many ends_items udp_item & optional (sees_word (codes "initial")) initial & table & ending)
 
-abbrev pub udp_of : Location × (Name × (UdpPorts × (Unit {0} × (List UdpItem × Option UdpInitial × List PlacedRow)))) → UdpDecl
-udp_of z = record { location = z.0; name = z.1.0; ports = z.1.1.0; items = z.1.1.1.1.0; initial = z.1.1.1.1.1; rows = z.1.1.1.1.2 }
+abbrev pub udp_of : Location
+    × (Name × (UdpPorts × (Unit {0} × (List UdpItem × Option UdpInitial × List PlacedRow))))
+    → UdpDecl
+udp_of z =
+    record {
+      location = z.0;
+      name = z.1.0;
+      ports = z.1.1.0;
+      items = z.1.1.1.1.0;
+      initial = z.1.1.1.1.1;
+      rows = z.1.1.1.1.2;
+    }
 
 -- `primitive Name ( ports ) ;` and the body
 unfoldable pub udp : Reader UdpDecl

@@ -26,7 +26,8 @@ abbrev pub Lists : Type 0
 Lists = List Module × List UdpDecl × List Directive
 
 -- an outcome has descriptions whose modules, primitives and directives, in their order, are these
-pub record Sorts (outcome : Outcome (List Description)) (modules : List Module) (udps : List UdpDecl) (directives : List Directive) (rest : Input) : Type 0 where
+pub record Sorts (outcome : Outcome (List Description)) (modules : List Module)
+    (udps : List UdpDecl) (directives : List Directive) (rest : Input) : Type 0 where
   pub found : List Description
   pub read : outcome ≡ Ok (found, rest)
   pub modules_are : modules_among found ≡ modules
@@ -45,7 +46,8 @@ GivesLists outcome (Err e) = e ≢ Memory → outcome ≡ Err e
 
 -- the file that was returned has the modules, the primitives and the directives of the outcome
 abbrev pub Gives : Outcome (List Description) → Result File ParseFault → Type 0
-Gives outcome (Ok found) = (rest : Input) × Sorts outcome found.modules found.udps found.directives rest
+Gives outcome (Ok found) = (rest : Input)
+    × Sorts outcome found.modules found.udps found.directives rest
 Gives outcome (Err e) = e ≢ Memory → outcome ≡ Err e
 
 -- two files have the same modules, primitives and directives
@@ -61,6 +63,8 @@ IsUnlessMemory tree (Err e) = e ≡ Memory
 
 -- the refused token is one of the list: as unsupported exactly where the grammar leaves such a token out
 abbrev pub IsRefusalOf : List ℕ → List Token → ParseFault → Type 0
-IsRefusalOf text tokens (Unsupported n) = (token : Token) × (slice_get tokens n ≡ Some token) × (is_left_out token.kind (slice_of text token) ≡ true)
-IsRefusalOf text tokens (Syntax n) = (token : Token) × (slice_get tokens n ≡ Some token) × (is_left_out token.kind (slice_of text token) ≡ false)
+IsRefusalOf text tokens (Unsupported n) = (token : Token) × (slice_get tokens n ≡ Some token)
+    × (is_left_out token.kind (slice_of text token) ≡ true)
+IsRefusalOf text tokens (Syntax n) = (token : Token) × (slice_get tokens n ≡ Some token)
+    × (is_left_out token.kind (slice_of text token) ≡ false)
 IsRefusalOf text tokens Memory = Unit {0}

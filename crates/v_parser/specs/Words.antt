@@ -39,7 +39,8 @@ abbrev pub level_with : Strength → Bool → Level
 level_with strength of_one = record { strength = strength; of_one = of_one }
 
 unfoldable pub direction_table : List (List ℕ × Direction)
-direction_table = (codes "input", direction.Input) ∷ (codes "output", direction.Output) ∷ (codes "inout", direction.Inout) ∷ []
+direction_table = (codes "input", direction.Input) ∷ (codes "output", direction.Output)
+    ∷ (codes "inout", direction.Inout) ∷ []
 
 unfoldable pub direction_of : List ℕ → Option Direction
 direction_of word = named direction_table word
@@ -52,7 +53,11 @@ abbrev pub sees_direction : Form → Form → Bool
 sees_direction f g = is_some (direction_in f)
 
 unfoldable pub net_type_table : List (List ℕ × NetType)
-net_type_table = (codes "wire", net_type.Wire) ∷ (codes "tri", net_type.Tri) ∷ (codes "wand", net_type.Wand) ∷ (codes "triand", net_type.Triand) ∷ (codes "wor", net_type.Wor) ∷ (codes "trior", net_type.Trior) ∷ (codes "tri0", net_type.Tri0) ∷ (codes "tri1", net_type.Tri1) ∷ (codes "supply0", net_type.Supply0) ∷ (codes "supply1", net_type.Supply1) ∷ []
+net_type_table = (codes "wire", net_type.Wire) ∷ (codes "tri", net_type.Tri)
+    ∷ (codes "wand", net_type.Wand) ∷ (codes "triand", net_type.Triand)
+    ∷ (codes "wor", net_type.Wor) ∷ (codes "trior", net_type.Trior) ∷ (codes "tri0", net_type.Tri0)
+    ∷ (codes "tri1", net_type.Tri1) ∷ (codes "supply0", net_type.Supply0)
+    ∷ (codes "supply1", net_type.Supply1) ∷ []
 
 unfoldable pub net_type_of : List ℕ → Option NetType
 net_type_of word = named net_type_table word
@@ -78,7 +83,8 @@ abbrev pub sees_vector_word : Form → Form → Bool
 sees_vector_word f g = is_some (vector_word_in f)
 
 unfoldable pub charge_table : List (List ℕ × Charge)
-charge_table = (codes "small", charge.Small) ∷ (codes "medium", charge.Medium) ∷ (codes "large", charge.Large) ∷ []
+charge_table = (codes "small", charge.Small) ∷ (codes "medium", charge.Medium)
+    ∷ (codes "large", charge.Large) ∷ []
 
 unfoldable pub charge_of : List ℕ → Option Charge
 charge_of word = named charge_table word
@@ -87,7 +93,11 @@ abbrev pub charge_in : Form → Option Charge
 charge_in f = chosen charge_of (word_in f)
 
 unfoldable pub logic_table : List (List ℕ × LogicGate)
-logic_table = (codes "and", logic.And) ∷ (codes "nand", logic.Nand) ∷ (codes "or", logic.Or) ∷ (codes "nor", logic.Nor) ∷ (codes "xor", logic.Xor) ∷ (codes "xnor", logic.Xnor) ∷ (codes "buf", logic.Buf) ∷ (codes "not", logic.Not) ∷ (codes "bufif0", logic.Bufif0) ∷ (codes "bufif1", logic.Bufif1) ∷ (codes "notif0", logic.Notif0) ∷ (codes "notif1", logic.Notif1) ∷ []
+logic_table = (codes "and", logic.And) ∷ (codes "nand", logic.Nand) ∷ (codes "or", logic.Or)
+    ∷ (codes "nor", logic.Nor) ∷ (codes "xor", logic.Xor) ∷ (codes "xnor", logic.Xnor)
+    ∷ (codes "buf", logic.Buf) ∷ (codes "not", logic.Not) ∷ (codes "bufif0", logic.Bufif0)
+    ∷ (codes "bufif1", logic.Bufif1) ∷ (codes "notif0", logic.Notif0)
+    ∷ (codes "notif1", logic.Notif1) ∷ []
 
 unfoldable pub logic_of : List ℕ → Option LogicGate
 logic_of word = named logic_table word
@@ -100,7 +110,11 @@ abbrev pub sees_logic : Form → Form → Bool
 sees_logic f g = is_some (logic_in f)
 
 unfoldable pub switch_table : List (List ℕ × Switch)
-switch_table = (codes "nmos", switch.Nmos) ∷ (codes "pmos", switch.Pmos) ∷ (codes "rnmos", switch.Rnmos) ∷ (codes "rpmos", switch.Rpmos) ∷ (codes "cmos", switch.Cmos) ∷ (codes "rcmos", switch.Rcmos) ∷ (codes "tranif0", switch.Tranif0) ∷ (codes "tranif1", switch.Tranif1) ∷ (codes "rtranif0", switch.Rtranif0) ∷ (codes "rtranif1", switch.Rtranif1) ∷ []
+switch_table = (codes "nmos", switch.Nmos) ∷ (codes "pmos", switch.Pmos)
+    ∷ (codes "rnmos", switch.Rnmos) ∷ (codes "rpmos", switch.Rpmos) ∷ (codes "cmos", switch.Cmos)
+    ∷ (codes "rcmos", switch.Rcmos) ∷ (codes "tranif0", switch.Tranif0)
+    ∷ (codes "tranif1", switch.Tranif1) ∷ (codes "rtranif0", switch.Rtranif0)
+    ∷ (codes "rtranif1", switch.Rtranif1) ∷ []
 
 unfoldable pub switch_of : List ℕ → Option Switch
 switch_of word = named switch_table word
@@ -148,7 +162,12 @@ abbrev pub opening_in : Form → Option ModuleWord
 opening_in f = chosen opening_of (word_in f)
 
 unfoldable pub level_table : List (List ℕ × Level)
-level_table = (codes "supply0", level_with Supply false) ∷ (codes "supply1", level_with Supply true) ∷ (codes "strong0", level_with Strong false) ∷ (codes "strong1", level_with Strong true) ∷ (codes "pull0", level_with Pull false) ∷ (codes "pull1", level_with Pull true) ∷ (codes "weak0", level_with Weak false) ∷ (codes "weak1", level_with Weak true) ∷ (codes "highz0", level_with Highz false) ∷ (codes "highz1", level_with Highz true) ∷ []
+level_table = (codes "supply0", level_with Supply false)
+    ∷ (codes "supply1", level_with Supply true) ∷ (codes "strong0", level_with Strong false)
+    ∷ (codes "strong1", level_with Strong true) ∷ (codes "pull0", level_with Pull false)
+    ∷ (codes "pull1", level_with Pull true) ∷ (codes "weak0", level_with Weak false)
+    ∷ (codes "weak1", level_with Weak true) ∷ (codes "highz0", level_with Highz false)
+    ∷ (codes "highz1", level_with Highz true) ∷ []
 
 unfoldable pub level_of : List ℕ → Option Level
 level_of word = named level_table word

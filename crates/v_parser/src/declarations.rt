@@ -14,8 +14,8 @@ use crate::fault::ParseFault;
 use crate::lists::{Part, separated};
 use crate::words::{sees, word_for};
 use v_tree::{
-    AssignItem, Declared, Direction, Expr, Name, NetDecl, NetType, Pair, PortDecl, Range, Target,
-    TriregDecl, ValuedName, VectorRange, VectorWord,
+    AssignItem, Declared, Direction, Expr, Name, NetDecl, NetType, Pair, PortDecl, RangeBounds,
+    Target, TriregDecl, ValuedName, VectorRange, VectorWord,
 };
 
 /// An expression whose concatenations stand at most 64 deep.
@@ -46,7 +46,8 @@ fn net_type(cursor: &mut Cursor<'_>) -> Result<NetType, ParseFault>
 /// A type of nets, where one comes next.
 #[tactic(auto, unfolding(crate::specs::Input::optional))]
 pub fn net_type_if_there(cursor: &mut Cursor<'_>) -> Result<Option<NetType>, ParseFault>
-    ensures { Reads (input.optional words.sees_net_type spec.net_type cursor.old) result cursor.new }
+    ensures { Reads (input.optional words.sees_net_type spec.net_type cursor.old) result
+        cursor.new }
 {
     if sees::<NetType>(cursor) {
         Ok(Some(net_type(cursor)?))
@@ -57,7 +58,7 @@ pub fn net_type_if_there(cursor: &mut Cursor<'_>) -> Result<Option<NetType>, Par
 
 /// A range, where a `[` comes next.
 #[tactic(auto, unfolding(crate::specs::Input::optional))]
-pub fn range_if_there(cursor: &mut Cursor<'_>) -> Result<Option<Range>, ParseFault>
+pub fn range_if_there(cursor: &mut Cursor<'_>) -> Result<Option<RangeBounds>, ParseFault>
     ensures { Reads (input.optional (sees_mark 91) range cursor.old) result cursor.new }
 {
     if cursor.sees_mark(b'[') {
@@ -108,7 +109,8 @@ fn vector_word_named(cursor: &mut Cursor<'_>) -> Result<VectorWord, ParseFault>
 /// A word before a range, where one comes next.
 #[tactic(auto, unfolding(crate::specs::Input::optional))]
 fn vector_word_if_there(cursor: &mut Cursor<'_>) -> Result<Option<VectorWord>, ParseFault>
-    ensures { Reads (input.optional words.sees_vector_word spec.vector_word_named cursor.old) result cursor.new }
+    ensures { Reads (input.optional words.sees_vector_word spec.vector_word_named cursor.old)
+        result cursor.new }
 {
     if sees::<VectorWord>(cursor) {
         Ok(Some(vector_word_named(cursor)?))
@@ -130,7 +132,8 @@ fn vector_range(cursor: &mut Cursor<'_>) -> Result<VectorRange, ParseFault>
 /// A vector_range, where it begins.
 #[tactic(auto, unfolding(crate::specs::Input::optional))]
 fn vector_range_if_there(cursor: &mut Cursor<'_>) -> Result<Option<VectorRange>, ParseFault>
-    ensures { Reads (input.optional spec.begins_vector_range spec.vector_range cursor.old) result cursor.new }
+    ensures { Reads (input.optional spec.begins_vector_range spec.vector_range cursor.old) result
+        cursor.new }
 {
     if sees::<VectorWord>(cursor) || cursor.sees_mark(b'[') {
         Ok(Some(vector_range(cursor)?))

@@ -49,7 +49,8 @@ fn put(
 ) -> Result<(), AllocError>
     ensures modules { OnOk result (modules.new.items ≡ modules.old.items ++ module_of found) }
     ensures udps { OnOk result (udps.new.items ≡ udps.old.items ++ udp_of found) }
-    ensures directives { OnOk result (directives.new.items ≡ directives.old.items ++ directive_of found) }
+    ensures directives { OnOk result
+        (directives.new.items ≡ directives.old.items ++ directive_of found) }
 {
     match found {
         Description::Module(module) => modules.push(module)?,
@@ -64,7 +65,8 @@ pub type Lists = (ModuleList, UdpDeclList, DirectiveList);
 
 /// Modules, primitives and directives up to the end of the text.
 fn sorted(cursor: &mut Cursor<'_>) -> Result<Lists, ParseFault>
-    ensures { ReadsSorted (input.many input.is_finish spec.description cursor.old) result cursor.new }
+    ensures { ReadsSorted
+        (input.many input.is_finish spec.description cursor.old) result cursor.new }
 {
     let mut modules = Vec::new(cursor.alloc());
     let mut udps = Vec::new(cursor.alloc());

@@ -40,7 +40,8 @@ fn drive(cursor: &mut Cursor<'_>) -> Result<DriveStrength, ParseFault>
 
 /// Whether a `(` and a level come next.
 pub fn sees_drive(cursor: &Cursor<'_>) -> bool
-    ensures { result ≡ spec.sees_drive (input.front cursor.now) (input.front (input.next cursor.now)) }
+    ensures { result ≡ spec.sees_drive (input.front cursor.now)
+        (input.front (input.next cursor.now)) }
 {
     cursor.sees_mark(b'(') && sees::<Level>(&cursor.behind())
 }

@@ -8,11 +8,11 @@ ghost use Rattle.v_parser.specs.Expressions as spec;
 use crate::cursor::Cursor;
 use crate::fault::ParseFault;
 use crate::lists::{listed, passes_comma};
-use v_tree::{Expr, ExprList, Pick, Range, Select, Target, TargetList};
+use v_tree::{Expr, ExprList, Pick, RangeBounds, Select, Target, TargetList};
 
 /// `[ number : number ]`
 #[tactic(auto, unfolding(crate::specs::Expressions::range))]
-pub fn range(cursor: &mut Cursor<'_>) -> Result<Range, ParseFault>
+pub fn range(cursor: &mut Cursor<'_>) -> Result<RangeBounds, ParseFault>
     ensures { Reads (spec.range cursor.old) result cursor.new }
 {
     cursor.skip(b'[')?;
@@ -20,7 +20,7 @@ pub fn range(cursor: &mut Cursor<'_>) -> Result<Range, ParseFault>
     cursor.skip(b':')?;
     let right = cursor.number()?;
     cursor.skip(b']')?;
-    Ok(Range { left, right })
+    Ok(RangeBounds { left, right })
 }
 
 /// `: number`

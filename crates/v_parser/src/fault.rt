@@ -8,7 +8,7 @@ use std::alloc::{AllocError, AllocFailed};
 pub enum ParseFault {
     /// The token belongs to a part of the language that the grammar leaves out.
     Unsupported(u32),
-    /// The grammar has no such token in its place.
+    /// The grammar has no such token there.
     Syntax(u32),
     /// There is no memory for the tree.
     Memory,

@@ -132,7 +132,8 @@ pub fn pull_item(cursor: &mut Cursor<'_>) -> Result<GateItem, ParseFault>
 
 /// Whether an expression comes next.
 fn begins_expr(cursor: &Cursor<'_>) -> bool
-    ensures { result ≡ spec.begins_expr (input.front cursor.now) (input.front (input.next cursor.now)) }
+    ensures { result ≡ spec.begins_expr (input.front cursor.now)
+        (input.front (input.next cursor.now)) }
 {
     cursor.sees_name() || cursor.sees_number() || cursor.sees_based() || cursor.sees_mark(b'{')
 }
@@ -140,7 +141,8 @@ fn begins_expr(cursor: &Cursor<'_>) -> bool
 /// An expression, where one comes next.
 #[tactic(auto, unfolding(crate::specs::Input::optional))]
 fn expr_if_there(cursor: &mut Cursor<'_>) -> Result<Option<Expr>, ParseFault>
-    ensures { Reads (input.optional spec.begins_expr declarations.expr cursor.old) result cursor.new }
+    ensures { Reads (input.optional spec.begins_expr declarations.expr cursor.old) result
+        cursor.new }
 {
     if begins_expr(cursor) {
         Ok(Some(expr(cursor)?))
@@ -188,7 +190,7 @@ impl Part for Connection {
     }
 }
 
-/// Connections by name, or by place.
+/// Connections by name, or by order.
 #[tactic(auto, unfolding(crate::specs::Gates::connections, crate::specs::Input::choice))]
 fn connections(cursor: &mut Cursor<'_>) -> Result<Connections, ParseFault>
     ensures { Reads (spec.connections cursor.old) result cursor.new }
@@ -196,7 +198,7 @@ fn connections(cursor: &mut Cursor<'_>) -> Result<Connections, ParseFault>
     if cursor.sees_mark(b'.') {
         Ok(Connections::ByName(separated(cursor)?))
     } else {
-        Ok(Connections::ByPlace(separated(cursor)?))
+        Ok(Connections::ByOrder(separated(cursor)?))
     }
 }
 

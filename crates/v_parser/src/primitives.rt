@@ -229,7 +229,8 @@ fn initial(cursor: &mut Cursor<'_>) -> Result<UdpInitial, ParseFault>
 /// `initial Name = lit ;`, where the word comes next.
 #[tactic(auto, unfolding(crate::specs::Input::optional))]
 fn initial_if_there(cursor: &mut Cursor<'_>) -> Result<Option<UdpInitial>, ParseFault>
-    ensures { Reads (input.optional (sees_word (codes "initial")) spec.initial cursor.old) result cursor.new }
+    ensures { Reads (input.optional
+        (sees_word (codes "initial")) spec.initial cursor.old) result cursor.new }
 {
     if cursor.sees_word(b"initial") {
         Ok(Some(initial(cursor)?))

@@ -153,7 +153,8 @@ fn output(cursor: &mut Cursor<'_>) -> Result<Sym, ParseFault>
 /// `: field`, where a `:` comes next.
 #[tactic(auto, unfolding(crate::specs::Input::optional))]
 fn output_if_there(cursor: &mut Cursor<'_>) -> Result<Option<Sym>, ParseFault>
-    ensures { Reads (input.optional (spec.sees_symbol 58) spec.output cursor.old) result cursor.new }
+    ensures { Reads (input.optional
+        (spec.sees_symbol 58) spec.output cursor.old) result cursor.new }
 {
     if cursor.sees_symbol(b':') {
         Ok(Some(output(cursor)?))

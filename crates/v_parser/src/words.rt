@@ -51,7 +51,8 @@ pub fn sees<M: Meaning>(cursor: &Cursor<'_>) -> bool
 
 /// What the next token stands for, where it is one of the words, with its location.
 pub fn word_for<M: Meaning>(cursor: &mut Cursor<'_>) -> Result<(M, Location), ParseFault>
-    ensures { Reads (input.token (λ f. spec.chosen M.stands_for (input.word_in f)) cursor.old) result cursor.new }
+    ensures { Reads (input.token
+        (λ f. spec.chosen M.stands_for (input.word_in f)) cursor.old) result cursor.new }
 {
     match meant::<M>(cursor) {
         Some(found) => {

@@ -4,7 +4,7 @@ use Rattle.std.specs.List.{AllByRecursion}
 use Rattle.v_lexer.specs.declared.values.Literal.{Literal}
 use Rattle.v_lexer.specs.declared.values.DecimalDigits.{DecimalDigits}
 use Rattle.v_tree.specs.declared.locations.Name.{Name}
-use Rattle.v_tree.specs.declared.expressions.Range.{Range}
+use Rattle.v_tree.specs.declared.expressions.RangeBounds.{RangeBounds}
 use Rattle.v_tree.specs.declared.expressions.Select.{Select}
 use Rattle.v_tree.specs.declared.expressions.Pick.{Pick}
 use Rattle.v_tree.specs.declared.expressions.Expr.{Expr, out-Expr}
@@ -36,7 +36,7 @@ use Rattle.v_tree.specs.declared.gates.GateKind.TheVariants as gate
 use Rattle.v_tree.specs.declared.gates.GateItem.{GateItem}
 use Rattle.v_tree.specs.declared.gates.Connection.{Connection}
 use Rattle.v_tree.specs.declared.gates.Connections.{Connections}
-use Rattle.v_tree.specs.declared.gates.Connections.TheVariants.{ByPlace, ByName}
+use Rattle.v_tree.specs.declared.gates.Connections.TheVariants.{ByOrder, ByName}
 use Rattle.v_tree.specs.declared.gates.Inst.{Inst}
 use Rattle.v_tree.specs.declared.gates.Instance.{Instance}
 use Rattle.v_tree.specs.declared.modules.AnsiPort.{AnsiPort}
@@ -126,7 +126,7 @@ IsFitName n = IsNameText n.text
 
 -- ---- expressions
 
-abbrev pub IsFitRange : Range → Type 0
+abbrev pub IsFitRange : RangeBounds → Type 0
 IsFitRange r = IsNumber r.left × IsNumber r.right
 
 abbrev pub IsFitSelect : Select → Type 0
@@ -233,7 +233,7 @@ pub record IsFitConnection (c : Connection) : Type 0 where
   pub value : IsFitIfThere IsFitExpr c.value
 
 abbrev pub IsFitConnections : Connections → Type 0
-IsFitConnections (ByPlace values) = AreSome (IsFitIfThere IsFitExpr) values
+IsFitConnections (ByOrder values) = AreSome (IsFitIfThere IsFitExpr) values
 IsFitConnections (ByName values) = AreSome IsFitConnection values
 
 pub record IsFitInst (i : Inst) : Type 0 where
@@ -317,7 +317,8 @@ IsFitUdpPorts (udp_ports.Names names) = AreSome IsFitName names
 IsFitUdpPorts (udp_ports.Declared is_reg output value inputs) = IsFitUdpHead output value inputs
 
 abbrev pub IsFitUdpItem : UdpItem → Type 0
-IsFitUdpItem (udp_item.Output location is_reg output value) = IsFitName output × IsFitIfThere IsFitLit value
+IsFitUdpItem (udp_item.Output location is_reg output value) = IsFitName output
+    × IsFitIfThere IsFitLit value
 IsFitUdpItem (udp_item.Input location names) = AreSome IsFitName names
 IsFitUdpItem (udp_item.Reg location n) = IsFitName n
 

@@ -2,7 +2,7 @@
 use Rattle.std.specs.Prelude.{ℕ, ℤ, replicate, Bool, true, false, List, [], ◌∷◌, ◌++◌, codes, Option, Some, None}
 use Rattle.v_tree.specs.declared.locations.Location.{Location}
 use Rattle.v_tree.specs.declared.locations.Name.{Name}
-use Rattle.v_tree.specs.declared.expressions.Range.{Range}
+use Rattle.v_tree.specs.declared.expressions.RangeBounds.{RangeBounds}
 use Rattle.v_tree.specs.declared.expressions.Select.{Select}
 use Rattle.v_tree.specs.declared.expressions.Pick.{Pick}
 use Rattle.v_tree.specs.declared.expressions.Expr.{Expr}
@@ -45,7 +45,7 @@ use Rattle.v_tree.specs.declared.gates.GateKind.TheVariants as gate
 use Rattle.v_tree.specs.declared.gates.GateItem.{GateItem}
 use Rattle.v_tree.specs.declared.gates.Connection.{Connection}
 use Rattle.v_tree.specs.declared.gates.Connections.{Connections}
-use Rattle.v_tree.specs.declared.gates.Connections.TheVariants.{ByPlace, ByName}
+use Rattle.v_tree.specs.declared.gates.Connections.TheVariants.{ByOrder, ByName}
 use Rattle.v_tree.specs.declared.gates.Inst.{Inst}
 use Rattle.v_tree.specs.declared.gates.Instance.{Instance}
 use Rattle.v_tree.specs.declared.modules.AnsiPort.{AnsiPort}
@@ -98,7 +98,7 @@ name n = at n.location (form.Name n.text) ∷ []
 -- ---- expressions
 
 -- `[ left : right ]`
-abbrev pub range : Range → List Written
+abbrev pub range : RangeBounds → List Written
 range r = mark 91 ∷ number r.left ∷ mark 58 ∷ number r.right ∷ mark 93 ∷ []
 
 -- `: right`
@@ -114,7 +114,8 @@ pick p = name p.name ++ written_if_there select p.select
 
 -- parts in braces
 abbrev pub concat : Location → List (List Written) → List Written
-concat location parts = placed_mark location 123 ∷ (between_commas (λ part. part) parts ++ mark 125 ∷ [])
+concat location parts = placed_mark location 123
+    ∷ (between_commas (λ part. part) parts ++ mark 125 ∷ [])
 
 -- one layer of an expression, with what its parts are written with
 abbrev pub expr_layer : Expr-F (List Written) → List Written
@@ -149,7 +150,8 @@ second_level l = mark 44 ∷ level l ∷ []
 
 -- `( level )` or `( level , level )`
 abbrev pub pull_levels : PullLevels → List Written
-pull_levels p = placed_mark p.location 40 ∷ level p.first ∷ (written_if_there second_level p.second ++ mark 41 ∷ [])
+pull_levels p = placed_mark p.location 40 ∷ level p.first
+    ∷ (written_if_there second_level p.second ++ mark 41 ∷ [])
 
 -- `( charge )`
 abbrev pub charge : Charge → List Written
@@ -183,7 +185,9 @@ net_type t = word (net_type_word t) ∷ []
 
 -- `dir [ nettype ] [ range ] Name , .. ;`
 abbrev pub port_decl : PortDecl → List Written
-port_decl d = placed_word d.location (direction_word d.direction) ∷ (written_if_there net_type d.net_type ++ (written_if_there range d.range ++ (between_commas name d.names ++ mark 59 ∷ [])))
+port_decl d = placed_word d.location (direction_word d.direction)
+    ∷ (written_if_there net_type d.net_type
+    ++ (written_if_there range d.range ++ (between_commas name d.names ++ mark 59 ∷ [])))
 
 abbrev pub word_before_range : VectorWord → List Written
 word_before_range w = word (vector_word w) ∷ []
@@ -202,12 +206,16 @@ declared (declares.Valued names) = between_commas valued_name names
 -- `nettype [ drive ] [ vector_range ] [ delay ] declared ;`
 abbrev pub net_decl : NetDecl → List Written
 net_decl d = placed_word d.location (net_type_word d.net_type)
-    ∷ (written_if_there drive d.drive ++ (written_if_there vector_range d.vector_range ++ (written_if_there delay_spec d.delay ++ (declared d.declared ++ mark 59 ∷ []))))
+    ∷ (written_if_there drive d.drive
+    ++ (written_if_there vector_range d.vector_range
+    ++ (written_if_there delay_spec d.delay ++ (declared d.declared ++ mark 59 ∷ []))))
 
 -- `trireg [ charge ] [ vector_range ] [ delay ] Name , .. ;`
 abbrev pub trireg_decl : TriregDecl → List Written
 trireg_decl d = placed_word d.location (codes "trireg")
-    ∷ (written_if_there charge d.charge ++ (written_if_there vector_range d.vector_range ++ (written_if_there delay_spec d.delay ++ (between_commas name d.names ++ mark 59 ∷ []))))
+    ∷ (written_if_there charge d.charge
+    ++ (written_if_there vector_range d.vector_range
+    ++ (written_if_there delay_spec d.delay ++ (between_commas name d.names ++ mark 59 ∷ []))))
 
 -- `target = expr`
 abbrev pub pair : Pair → List Written
@@ -215,20 +223,26 @@ pair p = target p.target ++ mark 61 ∷ expr p.value
 
 -- `assign [ drive ] [ delay ] pair , .. ;`
 abbrev pub assign_item : AssignItem → List Written
-assign_item a = placed_word a.location (codes "assign") ∷ (written_if_there drive a.drive ++ (written_if_there delay_spec a.delay ++ (between_commas pair a.pairs ++ mark 59 ∷ [])))
+assign_item a = placed_word a.location (codes "assign")
+    ∷ (written_if_there drive a.drive
+    ++ (written_if_there delay_spec a.delay ++ (between_commas pair a.pairs ++ mark 59 ∷ [])))
 
 -- ---- gates and instances
 
 -- `[ Name ] ( expr , .. )`
 abbrev pub terms : Terms → List Written
-terms t = written_if_there name t.name ++ placed_mark t.paren 40 ∷ (between_commas expr t.terminals ++ mark 41 ∷ [])
+terms t = written_if_there name t.name ++ placed_mark t.paren 40
+    ∷ (between_commas expr t.terminals ++ mark 41 ∷ [])
 
 -- the word of a kind of gates, and what stands before the terminals
 abbrev pub gate_head : Location → GateKind → List Written
-gate_head location (gate.Logic kind strength time) = placed_word location (logic_word kind) ∷ (written_if_there drive strength ++ written_if_there delay_spec time)
-gate_head location (gate.Switch kind time) = placed_word location (switch_word kind) ∷ written_if_there delay_spec time
+gate_head location (gate.Logic kind strength time) = placed_word location (logic_word kind)
+    ∷ (written_if_there drive strength ++ written_if_there delay_spec time)
+gate_head location (gate.Switch kind time) = placed_word location (switch_word kind)
+    ∷ written_if_there delay_spec time
 gate_head location (gate.Tran kind) = placed_word location (tran_word kind) ∷ []
-gate_head location (gate.Pull kind levels) = placed_word location (pull_word kind) ∷ written_if_there pull_levels levels
+gate_head location (gate.Pull kind levels) = placed_word location (pull_word kind)
+    ∷ written_if_there pull_levels levels
 
 -- `kind terms , .. ;`
 abbrev pub gate_item : GateItem → List Written
@@ -236,19 +250,23 @@ gate_item g = gate_head g.location g.kind ++ (between_commas terms g.gates ++ ma
 
 -- `. Name ( [ expr ] )`
 abbrev pub connection : Connection → List Written
-connection c = placed_mark c.location 46 ∷ (name c.port ++ mark 40 ∷ (written_if_there expr c.value ++ mark 41 ∷ []))
+connection c = placed_mark c.location 46
+    ∷ (name c.port ++ mark 40 ∷ (written_if_there expr c.value ++ mark 41 ∷ []))
 
 abbrev pub connections : Connections → List Written
-connections (ByPlace values) = between_commas (written_if_there expr) values
+connections (ByOrder values) = between_commas (written_if_there expr) values
 connections (ByName values) = between_commas connection values
 
 -- `[ Name ] ( connections )`
 abbrev pub inst : Inst → List Written
-inst i = written_if_there name i.name ++ placed_mark i.paren 40 ∷ (connections i.connections ++ mark 41 ∷ [])
+inst i = written_if_there name i.name ++ placed_mark i.paren 40
+    ∷ (connections i.connections ++ mark 41 ∷ [])
 
 -- `Name [ drive ] [ delay ] inst , .. ;`
 abbrev pub instance : Instance → List Written
-instance i = name i.name ++ (written_if_there drive i.drive ++ (written_if_there delay_spec i.delay ++ (between_commas inst i.instances ++ mark 59 ∷ [])))
+instance i = name i.name
+    ++ (written_if_there drive i.drive
+    ++ (written_if_there delay_spec i.delay ++ (between_commas inst i.instances ++ mark 59 ∷ [])))
 
 -- ---- directives
 
@@ -265,7 +283,8 @@ scale power = number (unit_count power) ∷ bare (form.Name (unit_name power)) �
 
 -- `` `timescale unit / precision ``
 abbrev pub timescale : Timescale → List Written
-timescale t = placed_directive t.location (codes "`timescale") ∷ (scale t.unit ++ mark 47 ∷ scale t.precision)
+timescale t = placed_directive t.location (codes "`timescale")
+    ∷ (scale t.unit ++ mark 47 ∷ scale t.precision)
 
 -- what the token of a default type says
 abbrev pub default_form : Option ImplicitNetType → Form
@@ -274,7 +293,8 @@ default_form (Some t) = form.Word (implicit_net_type_word t)
 
 -- `` `default_nettype `` and a type or `none`
 abbrev pub default_nettype : DefaultNettype → List Written
-default_nettype d = placed_directive d.location (codes "`default_nettype") ∷ bare (default_form d.net_type) ∷ []
+default_nettype d = placed_directive d.location (codes "`default_nettype")
+    ∷ bare (default_form d.net_type) ∷ []
 
 abbrev pub directive : Directive → List Written
 directive (directives.Timescale t) = timescale t
@@ -286,7 +306,8 @@ directive (directives.Cell c) = cell c
 
 -- `specify { any token but endspecify and the end } endspecify`
 abbrev pub specify_block : SpecifyBlock → List Spelled
-specify_block b = Exactly (placed_word b.location (codes "specify")) ∷ (replicate b.token_count Inside ++ exactly (word (codes "endspecify") ∷ []))
+specify_block b = Exactly (placed_word b.location (codes "specify"))
+    ∷ (replicate b.token_count Inside ++ exactly (word (codes "endspecify") ∷ []))
 
 abbrev pub module_item : Item → List Spelled
 module_item (item.Ports d) = exactly (port_decl d)
@@ -300,7 +321,8 @@ module_item (item.Specify b) = specify_block b
 
 -- `dir [ nettype ] [ range ] Name`
 abbrev pub ansi_port : AnsiPort → List Written
-ansi_port p = placed_word p.location (direction_word p.direction) ∷ (written_if_there net_type p.net_type ++ (written_if_there range p.range ++ name p.name))
+ansi_port p = placed_word p.location (direction_word p.direction)
+    ∷ (written_if_there net_type p.net_type ++ (written_if_there range p.range ++ name p.name))
 
 abbrev pub ansi_entry : AnsiEntry → List Written
 ansi_entry (entry.Port p) = ansi_port p
@@ -311,15 +333,18 @@ abbrev pub header_ports : Ports → List Written
 header_ports ports.Absent = []
 header_ports ports.Empty = mark 40 ∷ mark 41 ∷ []
 header_ports (ports.Names names) = mark 40 ∷ (between_commas name names ++ mark 41 ∷ [])
-header_ports (ports.Ansi first others) = mark 40 ∷ (ansi_port first ++ (behind_commas ansi_entry others ++ mark 41 ∷ []))
+header_ports (ports.Ansi first others) = mark 40
+    ∷ (ansi_port first ++ (behind_commas ansi_entry others ++ mark 41 ∷ []))
 
 -- `module Name [ ports ] ;`
 abbrev pub module_head : Module → List Written
-module_head m = placed_word m.location (opening_word m.word) ∷ (name m.name ++ (header_ports m.ports ++ mark 59 ∷ []))
+module_head m = placed_word m.location (opening_word m.word)
+    ∷ (name m.name ++ (header_ports m.ports ++ mark 59 ∷ []))
 
 -- `module Name [ ports ] ; { item } endmodule`
 abbrev pub module_spelling : Module → List Spelled
-module_spelling m = exactly (module_head m) ++ (one_by_one module_item m.items ++ exactly (word (codes "endmodule") ∷ []))
+module_spelling m = exactly (module_head m)
+    ++ (one_by_one module_item m.items ++ exactly (word (codes "endmodule") ∷ []))
 
 -- ---- primitives
 
@@ -347,22 +372,30 @@ udp_input i = word_if_there (codes "input") i.has_word ++ name i.name
 abbrev pub udp_header : UdpPorts → List Written
 udp_header (udp_ports.Names names) = mark 40 ∷ (between_commas name names ++ mark 41 ∷ [])
 udp_header (udp_ports.Declared is_reg output value inputs) =
-    mark 40 ∷ word (codes "output") ∷ (word_if_there (codes "reg") is_reg ++ (name output ++ (written_if_there start value ++ (behind_commas udp_input inputs ++ mark 41 ∷ []))))
+    mark 40 ∷ word (codes "output")
+    ∷ (word_if_there (codes "reg") is_reg
+    ++ (name output ++ (written_if_there start value
+    ++ (behind_commas udp_input inputs ++ mark 41 ∷ []))))
 
 -- a declaration
 abbrev pub udp_decl : UdpItem → List Written
 udp_decl (udp_item.Output location is_reg output value) =
-    placed_word location (codes "output") ∷ (word_if_there (codes "reg") is_reg ++ (name output ++ (written_if_there start value ++ mark 59 ∷ [])))
-udp_decl (udp_item.Input location names) = placed_word location (codes "input") ∷ (between_commas name names ++ mark 59 ∷ [])
+    placed_word location (codes "output")
+    ∷ (word_if_there (codes "reg") is_reg
+    ++ (name output ++ (written_if_there start value ++ mark 59 ∷ [])))
+udp_decl (udp_item.Input location names) = placed_word location (codes "input")
+    ∷ (between_commas name names ++ mark 59 ∷ [])
 udp_decl (udp_item.Reg location n) = placed_word location (codes "reg") ∷ (name n ++ mark 59 ∷ [])
 
 -- `initial Name = lit ;`
 abbrev pub udp_initial : UdpInitial → List Written
-udp_initial i = placed_word i.location (codes "initial") ∷ (name i.name ++ mark 61 ∷ (lit i.value ++ mark 59 ∷ []))
+udp_initial i = placed_word i.location (codes "initial")
+    ∷ (name i.name ++ mark 61 ∷ (lit i.value ++ mark 59 ∷ []))
 
 -- a symbol, or two values in parentheses
 abbrev pub field : Sym → List Written
-field (sym.Edge from to) = symbol 40 ∷ symbol (base_symbol from) ∷ symbol (base_symbol to) ∷ symbol 41 ∷ []
+field (sym.Edge from to) = symbol 40 ∷ symbol (base_symbol from) ∷ symbol (base_symbol to)
+    ∷ symbol 41 ∷ []
 field s = symbol (sym_symbol s) ∷ []
 
 -- `[ field : ] field`: the present state, where it is there, and the output
@@ -384,7 +417,10 @@ table rows = word (codes "table") ∷ (one_by_one placed_row rows ++ word (codes
 -- `primitive Name ( ports ) ; { declaration } [ initial ] table { row } endtable endprimitive`
 abbrev pub udp : UdpDecl → List Written
 udp u = placed_word u.location (codes "primitive")
-    ∷ (name u.name ++ (udp_header u.ports ++ mark 59 ∷ (one_by_one udp_decl u.items ++ (written_if_there udp_initial u.initial ++ (table u.rows ++ word (codes "endprimitive") ∷ [])))))
+    ∷ (name u.name ++ (udp_header u.ports ++ mark 59
+    ∷ (one_by_one udp_decl u.items
+    ++ (written_if_there udp_initial u.initial
+    ++ (table u.rows ++ word (codes "endprimitive") ∷ [])))))
 
 -- ---- texts
 

@@ -76,7 +76,8 @@ in_order (d ∷ ds) = insert d (in_order ds)
 
 -- modules, primitives and directives as descriptions, kind by kind
 abbrev pub all_descriptions : List Module → List UdpDecl → List Directive → List Description
-all_descriptions ms us ds = map described.Module ms ++ (map described.Udp us ++ map described.Directive ds)
+all_descriptions ms us ds = map described.Module ms
+    ++ (map described.Udp us ++ map described.Directive ds)
 
 -- all descriptions of a file, in the order of their first tokens: so it is told which directive stands before which module
 unfoldable pub descriptions : File → List Description

@@ -102,7 +102,8 @@ Meets text number token Inside = IsInside (form_of text token)
 -- the tokens of a text, numbered from a number on, are spelled so, one by one
 abbrev pub AreWritten : List ℕ → ℕ → List Token → List Spelled → Type 0
 AreWritten text number [] [] = Unit {0}
-AreWritten text number (token ∷ tokens) (spelled ∷ others) = Meets text number token spelled × AreWritten text (number + 1) tokens others
+AreWritten text number (token ∷ tokens) (spelled ∷ others) = Meets text number token spelled
+    × AreWritten text (number + 1) tokens others
 AreWritten text number [] (spelled ∷ others) = ⊥
 AreWritten text number (token ∷ tokens) [] = ⊥
 

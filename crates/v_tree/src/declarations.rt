@@ -1,5 +1,5 @@
 use crate::drives::{Charge, DelaySpec, DriveStrength};
-use crate::expressions::{Expr, Range, Target};
+use crate::expressions::{Expr, RangeBounds, Target};
 use crate::locations::{Location, Name, PlacedNameList};
 use sqlite_items::Items;
 
@@ -37,7 +37,7 @@ pub enum VectorWord {
 #[derive(Clone, Copy, Debug, PartialEq, Eq)]
 pub struct VectorRange {
     pub word: Option<VectorWord>,
-    pub range: Range,
+    pub range: RangeBounds,
 }
 
 /// A declaration of ports: `dir [ nettype ] [ range ] Name , .. ;`. The location is that of the direction.
@@ -46,7 +46,7 @@ pub struct PortDecl {
     pub location: Location,
     pub direction: Direction,
     pub net_type: Option<NetType>,
-    pub range: Option<Range>,
+    pub range: Option<RangeBounds>,
     pub names: PlacedNameList,
 }
 

@@ -2,9 +2,9 @@ use crate::locations::{Location, Name};
 use sqlite_items::Items;
 use v_lexer::Literal;
 
-/// `[ left : right ]` of a declaration (IEEE 1364-2005, 4.3.1).
+/// `[ left : right ]`: the bounds of a declared range (IEEE 1364-2005, 4.3.1).
 #[derive(Clone, Copy, Debug, PartialEq, Eq)]
-pub struct Range {
+pub struct RangeBounds {
     pub left: u32,
     pub right: u32,
 }

@@ -88,13 +88,13 @@ pub struct Connection {
 /// Connections by name, with commas between.
 pub type ConnectionList = Items<Connection>;
 
-/// Connections by place, with commas between, each of which may be empty.
+/// Connections by order, with commas between, each of which may be empty.
 pub type OptionalExprList = Items<Option<Expr>>;
 
-/// The connections of an instance: by place, or by name. `()` is one empty connection by place.
+/// The connections of an instance: by order, or by name. `()` is one empty connection by order.
 #[derive(Drop)]
 pub enum Connections {
-    ByPlace(OptionalExprList),
+    ByOrder(OptionalExprList),
     ByName(ConnectionList),
 }
 

@@ -22,7 +22,7 @@ pub use drives::{
     Amount, Charge, Delay, DelaySpec, DelayValue, DelayValueList, DriveStrength, Level, PullLevels,
     Strength,
 };
-pub use expressions::{Expr, ExprList, Pick, Range, Select, Target, TargetList};
+pub use expressions::{Expr, ExprList, Pick, RangeBounds, Select, Target, TargetList};
 pub use gates::{
     Connection, ConnectionList, Connections, GateItem, GateKind, Inst, InstList, Instance,
     LogicGate, OptionalExprList, PullGate, Switch, Terms, TermsList, TranGate,

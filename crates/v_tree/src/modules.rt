@@ -2,7 +2,7 @@ ghost use Rattle.v_tree.specs.Fit.{AreFitLists};
 
 use crate::declarations::{AssignItem, Direction, NetDecl, NetType, PortDecl, TriregDecl};
 use crate::directives::{CellDirective, Directive, DirectiveList};
-use crate::expressions::Range;
+use crate::expressions::RangeBounds;
 use crate::gates::{GateItem, Instance};
 use crate::locations::{Location, Name, PlacedNameList};
 use crate::primitives::{UdpDecl, UdpDeclList};
@@ -21,7 +21,7 @@ pub struct AnsiPort {
     pub location: Location,
     pub direction: Direction,
     pub net_type: Option<NetType>,
-    pub range: Option<Range>,
+    pub range: Option<RangeBounds>,
     pub name: Name,
 }
 

@@ -25,8 +25,8 @@ fn show_names(shown: &mut String, names: &PlacedNameList) -> Result<(), AllocErr
     Ok(())
 }
 
-fn show_range(shown: &mut String, range: &Range) -> Result<(), AllocError> {
-    let Range { left, right } = *range;
+fn show_range(shown: &mut String, range: &RangeBounds) -> Result<(), AllocError> {
+    let RangeBounds { left, right } = *range;
     write!(shown, "[{left}:{right}] ")?;
     Ok(())
 }
@@ -204,7 +204,7 @@ fn show_net_type(shown: &mut String, net_type: &Option<NetType>) -> Result<(), A
     Ok(())
 }
 
-fn show_range_if_there(shown: &mut String, range: &Option<Range>) -> Result<(), AllocError> {
+fn show_range_if_there(shown: &mut String, range: &Option<RangeBounds>) -> Result<(), AllocError> {
     if let Some(range) = range {
         show_range(shown, range)?;
     }
@@ -342,7 +342,7 @@ fn show_connection(shown: &mut String, connection: &Connection) -> Result<(), Al
     Ok(())
 }
 
-fn show_by_place(shown: &mut String, values: &OptionalExprList) -> Result<(), AllocError> {
+fn show_by_order(shown: &mut String, values: &OptionalExprList) -> Result<(), AllocError> {
     for (i, value) in values.as_slice().iter().enumerate() {
         if i > 0 {
             shown.push(',')?;
@@ -369,7 +369,7 @@ fn show_inst(shown: &mut String, inst: &Inst) -> Result<(), AllocError> {
     let token = inst.paren.token;
     write!(shown, "{token}(")?;
     match &inst.connections {
-        Connections::ByPlace(values) => show_by_place(shown, values)?,
+        Connections::ByOrder(values) => show_by_order(shown, values)?,
         Connections::ByName(connections) => show_by_name(shown, connections)?,
     }
     shown.push(')')

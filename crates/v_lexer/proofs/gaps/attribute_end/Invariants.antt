@@ -7,7 +7,7 @@ use Rattle.v_lexer.proofs.gaps.attribute_end.Given as goal
 abbrev pub invariant-loop-rest : goal.invariant-loop-rest
 invariant-loop-rest l = record {
   so_far : plus l.len (attribute_end 0 l.rest) ≡ attribute_end 0 l.text;
-  place : l.len + length l.rest ≡ length l.text;
+  offset : l.len + length l.rest ≡ length l.text;
   strays : l.stray ≡ true → IsStray l.rest;
 }
 

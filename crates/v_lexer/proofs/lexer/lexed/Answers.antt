@@ -6,7 +6,7 @@ use Rattle.v_lexer.proofs.lexer.lexed.Goals as goal
 pub loop-rest-init : goal.loop-rest-init
 loop-rest-init c = record {
   so_far = onto_none c.new-tokens.result.items c.args.text.now c.new-tokens.ensures.items;
-  place = omega arith;
+  offset = omega arith;
   line = omega arith;
 }
 
@@ -19,7 +19,7 @@ pub loop-rest-preserved : goal.loop-rest-preserved
 loop-rest-preserved c = record {
   so_far = tokens_go_on c.loop-rest.tokens.items c.push_given.new.tokens.items c.loop-rest.rest.now c.loop-rest.table c.loop-rest.at c.loop-rest.line c.in-Ok.piece c.table_after-table.result c.lines_after-line.result c.split_at.result.0.now c.split_at.result.1.now (tokens_of c.args.text.now)
       (sym c.in-Ok.ensures.at) c.in-Ok.ensures.within.0 c.in-Ok.ensures.within.1 c.in_ok-push_given.ensures.ok c.table_after-table.ensures c.split_at.ensures.front c.lines_after-line.ensures.line c.split_at.ensures.back c.loop-rest.invariant.so_far;
-  place = omega (arith, c.split_at.ensures.back_len, c.loop-rest.invariant.place);
+  offset = omega (arith, c.split_at.ensures.back_len, c.loop-rest.invariant.offset);
   line = omega (arith, c.lines_after-line.ensures.bound, c.split_at.ensures.front_len, c.loop-rest.invariant.line);
 }
 

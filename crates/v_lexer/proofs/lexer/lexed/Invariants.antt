@@ -5,7 +5,7 @@ use Rattle.v_lexer.proofs.lexer.lexed.Given as goal
 abbrev pub invariant-loop-rest : goal.invariant-loop-rest
 invariant-loop-rest l = record {
   so_far : onto l.tokens.items (tokens_from 0 l.table l.at l.line l.rest) ≡ tokens_of l.text;
-  place : l.at + length l.rest ≡ length l.text;
+  offset : l.at + length l.rest ≡ length l.text;
   line : l.line ≤ l.at + 1;
 }
 
