@@ -2,8 +2,8 @@
 use Rattle.std.proofs.Common.{◌≡◌, ℕ, List, Option, refl}
 use Rattle.gate_net.specs.declared.netlist.Netlist.{Netlist}
 use Rattle.gate_net.specs.declared.stimulus.Stimulus.{Stimulus}
-use Rattle.machine.specs.Run.{run}
-use Rattle.machine.specs.Trace.{trace}
+use Rattle.first_machine.specs.Run.{run}
+use Rattle.first_machine.specs.Trace.{trace}
 use Rattle.cfsim.specs.Answer.{Answer, pass_limit, answer_of_trace, answer_of_run}
 
 pub same_answer : (s s' : ℕ) (o o' e e' : List ℕ) → s ≡ s' → o ≡ o' → e ≡ e' → ◌≡◌ {A = Answer} (record { status = s; out = o; err = e }) (record { status = s'; out = o'; err = e' })

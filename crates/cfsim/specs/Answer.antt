@@ -5,8 +5,8 @@ use Rattle.std.specs.Option.{ok_or}
 use Rattle.gate_net.specs.declared.netlist.Netlist.{Netlist}
 use Rattle.gate_net.specs.declared.stimulus.Stimulus.{Stimulus}
 use Rattle.first_vectors.specs.Reading.{stimulus_of}
-use Rattle.machine.specs.Run.{run}
-use Rattle.machine.specs.Trace.{trace}
+use Rattle.first_machine.specs.Run.{run}
+use Rattle.first_machine.specs.Trace.{trace}
 use Rattle.cfsim.specs.Words.{Call, call_of}
 use Rattle.cfsim.specs.Messages.{usage_line, cannot_read_line, no_memory_line, limit_line, fault_line, unbuilt_line, oscillates_line}
 use Rattle.cfsim.specs.Netlists.{netlist_of_text}

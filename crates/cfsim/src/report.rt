@@ -12,7 +12,7 @@ use crate::status::Status;
 use byte_lists::Bytes;
 use gate_net::{Netlist, Stimulus};
 use itoa::Buffer;
-use machine::simulate;
+use first_machine::simulate;
 use std::alloc::{AllocError, Global};
 
 /// The most passes of a time step.

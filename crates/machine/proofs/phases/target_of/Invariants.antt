@@ -1,6 +1,0 @@
-use Rattle.std.proofs.Common.{◌≡◌, map, take}
-use Rattle.machine.specs.Shown.{logic_at}
-use Rattle.machine.proofs.phases.target_of.Given as goal
-
-abbrev pub invariant-loop-net : goal.invariant-loop-net
-invariant-loop-net l = l.pins.items ≡ map (logic_at l.seen) (take l.net-index l.net-items)
