@@ -239,3 +239,23 @@ module _ (shape : Shape) (on : List Conduct) (own charges : List Signal)
       ∙ ap (λ s. charge_left (slice_index_or shape.charge k 0) s (signal_at settled_signals k)) (left-at shape.charge charges settled_signals k undriven inside)
       ∙ left-twice (slice_index_or shape.charge k 0) (signal_at charges k) (signal_at settled_signals k)
       ∙ sym (left-at shape.charge charges settled_signals k d inside))
+
+  -- the settled signals of an island are signals, one for each net
+  pub length-signals : length (island_signals shape on own charges) ≡ length own
+  unfolding island_signals driven_signals chosen_signals
+  length-signals = length-map-range_with_len _ 0 (length driven) ∙ length-driven
+
+  pub signals-are : All IsSignal (island_signals shape on own charges)
+  unfolding island_signals driven_signals
+  signals-are k d lt =
+      let inside : k < length driven = (let e = length-signals in let f = length-driven in omega arith) in
+      subst IsSignal (sym (chosen-at driven second k d inside)) (by_test (excludes_zero (signal_at driven k)))
+    where
+      by_test : (b : Bool) → IsSignal (cond b (signal_at driven k) (signal_at second k))
+      by_test true = signal_is driven (settled-signals switches own signals) k
+      by_test false = signal_is second (settled-signals switches first first-signals) k
+
+  -- what is left of its charges are charges
+  pub left-are : AreCharges shape.charge (charges_left shape.charge charges (island_signals shape on own charges))
+  unfolding island_signals driven_signals
+  left-are = left-charges
