@@ -7,3 +7,4 @@ pub mod StateValues
 pub mod PrintedPlaces
 pub mod Places
 pub mod Progress
+pub mod Clauses

@@ -1,9 +1,9 @@
 //! The two phases of a pass, over lists of logic values.
 
-ghost use Rattle.std.specs.Prelude.{◌≡◌, ◌≢◌, ℕ, ◌<◌, not, length, slice_index, slice_index_or, IfOk, All, map};
+ghost use Rattle.std.specs.Prelude.{◌≡◌, not, length, IfOk, All};
 ghost use Rattle.gate_net.specs.Sound.{IsSound, AreNets, AreApart, IsGate, driven_nets};
-ghost use Rattle.first_machine.specs.Pass.{no_gate};
-ghost use Rattle.first_machine.specs.Shown.{values_from, HaveSizes, ArePassed, logic_at, next_value, same_logic, SaysDue};
+ghost use Rattle.first_machine.specs.Clauses.{HaveValues, OthersKeep, HaveOutputs, UndrivenKeep, AreTargets};
+ghost use Rattle.first_machine.specs.Shown.{values_from, HaveSizes, ArePassed, next_value, same_logic, SaysDue};
 
 use gate_net::{Gate, Netlist};
 use level_range::Logic;
@@ -15,8 +15,8 @@ pub fn drive_inputs(nets: &[u32], forced: &[Logic], seen: &mut [Logic])
     requires in_range { AreNets (length seen.old) nets.now }
     requires apart { AreApart nets.now }
     requires sizes { length forced.now ≡ length nets.now }
-    ensures entered { (k : ℕ) → k < length nets.now → logic_at seen.new (slice_index nets.now k) ≡ logic_at forced.now k }
-    ensures others { (n : ℕ) → ((k : ℕ) → k < length nets.now → slice_index nets.now k ≢ n) → logic_at seen.new n ≡ logic_at seen.old n }
+    ensures entered { HaveValues nets.now forced.now seen.new }
+    ensures others { OthersKeep nets.now seen.old seen.new }
 {
     for (k, net) in nets.iter().enumerate() {
         seen[*net as usize] = forced[k];
@@ -30,8 +30,8 @@ pub fn drive_outputs(gates: &[Gate], outs: &mut [Logic], targets: &[Logic], seen
     requires outs { length outs.old ≡ length gates.now }
     requires targets { length targets.now ≡ length gates.now }
     ensures outs { outs.new ≡ targets.now }
-    ensures driven { (k : ℕ) → k < length gates.now → logic_at seen.new (slice_index_or gates.now k no_gate).output ≡ logic_at targets.now k }
-    ensures others { (n : ℕ) → ((k : ℕ) → k < length gates.now → (slice_index_or gates.now k no_gate).output ≢ n) → logic_at seen.new n ≡ logic_at seen.old n }
+    ensures driven { HaveOutputs gates.now targets.now seen.new }
+    ensures others { UndrivenKeep gates.now seen.old seen.new }
 {
     for (k, gate) in gates.iter().enumerate() {
         let value = targets[k];
@@ -70,7 +70,7 @@ pub fn evaluate(
     requires in_range { All (IsGate (length seen.now)) gates.now }
     requires outs { length outs.now ≡ length gates.now }
     requires targets { length targets.old ≡ length gates.now }
-    ensures targets { IfOk result (λ due. (k : ℕ) → k < length gates.now → logic_at targets.new k ≡ next_value (slice_index_or gates.now k no_gate) seen.now) }
+    ensures targets { IfOk result (λ due. AreTargets gates.now seen.now targets.new) }
     ensures due { IfOk result (λ due. SaysDue due outs.now targets.new (length gates.now)) }
 {
     let mut due = false;
@@ -95,7 +95,9 @@ pub fn pass_over(
 ) -> Result<bool, AllocError>
     requires sound { IsSound netlist.now }
     requires sizes { HaveSizes netlist.now (values_from outs.old targets.old seen.old forced.now) }
-    ensures passed { IfOk result (λ due. ArePassed netlist.now (values_from outs.old targets.old seen.old forced.now) (values_from outs.new targets.new seen.new forced.now)) }
+    ensures passed { IfOk result (λ due. ArePassed netlist.now
+        (values_from outs.old targets.old seen.old forced.now)
+        (values_from outs.new targets.new seen.new forced.now)) }
     ensures due { IfOk result (λ due. SaysDue due outs.new targets.new (length netlist.now.gates)) }
 {
     let gates = netlist.gates.as_slice();

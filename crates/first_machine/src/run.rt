@@ -7,7 +7,8 @@ ghost use Rattle.first_machine.specs.Shown.{HaveSizes};
 ghost use Rattle.first_machine.specs.StateValues.{values_of};
 ghost use Rattle.first_machine.specs.Progress.{IsAt};
 ghost use Rattle.first_machine.specs.Trace.{trace};
-ghost use Rattle.first_machine.specs.Places.{IsPlace, FindsValues, AreEarlier, AreUpTo, DoTimesRise, tick_after};
+ghost use Rattle.first_machine.specs.Clauses.{ArePlaces};
+ghost use Rattle.first_machine.specs.Places.{FindsValues, AreEarlier, AreUpTo, DoTimesRise, tick_after};
 
 use crate::state::State;
 use crate::trace::push_step;
@@ -31,7 +32,7 @@ fn places_by_net(
 ) -> Result<Vec<Option<usize>>, AllocError>
     requires { AreNets count listed.now }
     ensures size { IfOk result (λ places. length places.items ≡ count) }
-    ensures places { IfOk result (λ places. (n : ℕ) → n < count → IsPlace listed.now (length listed.now) n (slice_index_or places.items n None)) }
+    ensures places { IfOk result (λ places. ArePlaces listed.now count places.items) }
 {
     let mut places = vec![in alloc; None; count]?;
     for (k, net) in listed.iter().enumerate() {
@@ -134,8 +135,11 @@ fn run_steps(
     requires places_size { length places.now ≡ length netlist.now.inputs }
     requires sizes { HaveSizes netlist.now (values_of state.old) }
     requires printed_size { length printed.old ≡ length netlist.now.outputs }
-    requires start { IsAt limit netlist.now stimulus.now state.old.outs.items state.old.targets.items state.old.seen.items printed.old text.old.items 0 }
-    ensures trace { IfOk result (λ oscillated. text.new.items ≡ trace netlist.now (run limit netlist.now stimulus.now).ended) }
+    requires start { IsAt limit netlist.now stimulus.now
+        state.old.outs.items state.old.targets.items state.old.seen.items
+        printed.old text.old.items 0 }
+    ensures trace { IfOk result (λ oscillated.
+        text.new.items ≡ trace netlist.now (run limit netlist.now stimulus.now).ended) }
     ensures oscillated { IfOk result (λ oscillated. oscillated ≡ (run limit netlist.now stimulus.now).oscillated) }
 {
     let lines = stimulus.lines.as_slice();

@@ -1,12 +1,12 @@
 //! The machine of a plain run.
 
-ghost use Rattle.std.specs.Prelude.{◌≡◌, ℕ, ◌<◌, replicate, length, map, IfOk};
+ghost use Rattle.std.specs.Prelude.{◌≡◌, ◌<◌, replicate, length, map, IfOk};
 ghost use Rattle.level_range.specs.declared.range.Logic.TheVariants.{X, Z};
 ghost use Rattle.gate_net.specs.Sound.{IsSound};
-ghost use Rattle.first_machine.specs.Machine.{Machine};
-ghost use Rattle.first_machine.specs.Pass.{is_due, pass};
+ghost use Rattle.first_machine.specs.Pass.{pass};
 ghost use Rattle.first_machine.specs.Run.{step};
-ghost use Rattle.first_machine.specs.Shown.{AreShown, HaveSizes, with_forced};
+ghost use Rattle.first_machine.specs.Shown.{HaveSizes, with_forced};
+ghost use Rattle.first_machine.specs.Clauses.{ShowsAfter, TellsDue};
 ghost use Rattle.first_machine.specs.Places.{placed_value};
 ghost use Rattle.first_machine.specs.StateValues.{values_of};
 
@@ -57,8 +57,9 @@ impl State {
         requires sizes { HaveSizes netlist.now (values_of self.old) }
         ensures sizes { IfOk result (λ due. HaveSizes netlist.now (values_of self.new)) }
         ensures forced { self.new.forced.items ≡ self.old.forced.items }
-        ensures shown { IfOk result (λ due. (m : Machine) → AreShown netlist.now (values_of self.old) m → AreShown netlist.now (values_of self.new) (pass netlist.now m)) }
-        ensures due { IfOk result (λ due. (m : Machine) → AreShown netlist.now (values_of self.old) m → is_due (pass netlist.now m) ≡ due) }
+        ensures shown { IfOk result (λ due.
+            ShowsAfter netlist.now (values_of self.old) (values_of self.new) (pass netlist.now)) }
+        ensures due { IfOk result (λ due. TellsDue netlist.now (values_of self.old) due (pass netlist.now)) }
     {
         let due = pass_over(
             netlist,
@@ -78,8 +79,9 @@ impl State {
         requires limit { 0 < limit }
         ensures sizes { IfOk result (λ due. HaveSizes netlist.now (values_of self.new)) }
         ensures forced { self.new.forced.items ≡ self.old.forced.items }
-        ensures shown { IfOk result (λ due. (m : Machine) → AreShown netlist.now (values_of self.old) m → AreShown netlist.now (values_of self.new) (step limit netlist.now m)) }
-        ensures due { IfOk result (λ due. (m : Machine) → AreShown netlist.now (values_of self.old) m → is_due (step limit netlist.now m) ≡ due) }
+        ensures shown { IfOk result (λ due.
+            ShowsAfter netlist.now (values_of self.old) (values_of self.new) (step limit netlist.now)) }
+        ensures due { IfOk result (λ due. TellsDue netlist.now (values_of self.old) due (step limit netlist.now)) }
     {
         let mut due = self.pass(netlist)?;
         let mut left = limit - 1;
@@ -104,10 +106,12 @@ impl State {
         requires places { length places.now ≡ length netlist.now.inputs }
         requires limit { 0 < limit }
         ensures sizes { IfOk result (λ due. HaveSizes netlist.now (values_of self.new)) }
-        ensures shown { IfOk result (λ due. (m : Machine) → AreShown netlist.now (with_forced (values_of self.old) (map (placed_value values.now) places.now)) m
-            → AreShown netlist.now (values_of self.new) (step limit netlist.now m)) }
-        ensures due { IfOk result (λ due. (m : Machine) → AreShown netlist.now (with_forced (values_of self.old) (map (placed_value values.now) places.now)) m
-            → is_due (step limit netlist.now m) ≡ due) }
+        ensures shown { IfOk result (λ due. ShowsAfter netlist.now
+            (with_forced (values_of self.old) (map (placed_value values.now) places.now))
+            (values_of self.new) (step limit netlist.now)) }
+        ensures due { IfOk result (λ due. TellsDue netlist.now
+            (with_forced (values_of self.old) (map (placed_value values.now) places.now)) due
+            (step limit netlist.now)) }
     {
         force(places, values, self.forced.as_mut_slice());
         let due = self.step(netlist, limit)?;

@@ -64,9 +64,11 @@ pub fn push_step(
     requires outputs { AreNets (length netlist.now.names) netlist.now.outputs }
     requires seen { length seen.now ≡ length netlist.now.names }
     requires printed { length printed.old ≡ length netlist.now.outputs }
-    ensures text { OnOk result ((m : Machine) (texts : List (Option (List ℕ))) → IsStep netlist.now tick seen.now printed.old m texts
+    ensures text { OnOk result ((m : Machine) (texts : List (Option (List ℕ)))
+        → IsStep netlist.now tick seen.now printed.old m texts
         → text.new.items ≡ text.old.items ++ step_text netlist.now texts m) }
-    ensures printed { OnOk result ((m : Machine) (texts : List (Option (List ℕ))) → IsStep netlist.now tick seen.now printed.old m texts
+    ensures printed { OnOk result ((m : Machine) (texts : List (Option (List ℕ)))
+        → IsStep netlist.now tick seen.now printed.old m texts
         → ArePrinted printed.new (printed_after netlist.now m)) }
 {
     for (j, net) in netlist.outputs.as_slice().iter().enumerate() {

@@ -181,7 +181,9 @@ fn port_nets(
     outputs: &NameTable,
 ) -> Result<(Vec<u32>, Vec<u32>), AllocError>
     requires { length header.now ≤ limit }
-    ensures { IfOk result (λ nets. (nets.0.items ≡ places_from 0 inputs.now header.now) × (nets.1.items ≡ places_from 0 outputs.now header.now)) }
+    ensures { IfOk result (λ nets.
+        (nets.0.items ≡ places_from 0 inputs.now header.now)
+        × (nets.1.items ≡ places_from 0 outputs.now header.now)) }
 {
     let input_nets = places_among(alloc, inputs, header)?;
     let output_nets = places_among(alloc, outputs, header)?;

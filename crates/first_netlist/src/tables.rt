@@ -82,7 +82,8 @@ pub fn push_others(
     names: &[Bytes],
     others: &mut Vec<Bytes>,
 ) -> Result<(), AllocError>
-    ensures { OnOk result (others.new.items ≡ others.old.items ++ filter (λ name. not (is_among name table.now)) names.now) }
+    ensures { OnOk result (others.new.items
+        ≡ others.old.items ++ filter (λ name. not (is_among name table.now)) names.now) }
 {
     for name in names {
         if !table.contains(name.as_slice()) {
