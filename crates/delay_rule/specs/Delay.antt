@@ -7,26 +7,26 @@ use Rattle.level_range.specs.declared.range.Conduct.TheVariants.{On, Off, Unknow
 use Rattle.delay_rule.specs.declared.delays.Delays.{Delays}
 
 -- the delays that are given
-abbrev pub given : Delays → List ℕ
-given delays = take delays.count delays.d
+abbrev pub delay_list : Delays → List ℕ
+delay_list delays = take delays.count delays.d
 
 -- no delay is 0, and one serves all; a change to 1 takes the first, to 0 the second, to z the third or with two
 -- delays the least, to x the least of those given
-abbrev pub chosen : List ℕ → Logic → ℕ
-chosen [] _ = 0
-chosen (all ∷ []) _ = all
-chosen (rise ∷ fall ∷ []) One = rise
-chosen (rise ∷ fall ∷ []) Zero = fall
-chosen (rise ∷ fall ∷ []) Z = min rise fall
-chosen (rise ∷ fall ∷ []) X = min rise fall
-chosen (rise ∷ fall ∷ off ∷ _) One = rise
-chosen (rise ∷ fall ∷ off ∷ _) Zero = fall
-chosen (rise ∷ fall ∷ off ∷ _) Z = off
-chosen (rise ∷ fall ∷ off ∷ _) X = min (min rise fall) off
+abbrev pub delay_among : List ℕ → Logic → ℕ
+delay_among [] _ = 0
+delay_among (all ∷ []) _ = all
+delay_among (rise ∷ fall ∷ []) One = rise
+delay_among (rise ∷ fall ∷ []) Zero = fall
+delay_among (rise ∷ fall ∷ []) Z = min rise fall
+delay_among (rise ∷ fall ∷ []) X = min rise fall
+delay_among (rise ∷ fall ∷ off ∷ _) One = rise
+delay_among (rise ∷ fall ∷ off ∷ _) Zero = fall
+delay_among (rise ∷ fall ∷ off ∷ _) Z = off
+delay_among (rise ∷ fall ∷ off ∷ _) X = min (min rise fall) off
 
 -- the delay of a change to a value
 abbrev pub delay_of : Delays → Logic → ℕ
-delay_of delays to = chosen (given delays) to
+delay_of delays to = delay_among (delay_list delays) to
 
 -- the tick at which a change to a value takes effect that begins at this one
 abbrev pub due : ℕ → Delays → Logic → ℕ

@@ -11,7 +11,7 @@ use Rattle.level_range.specs.declared.range.Kind.{Kind}
 use Rattle.level_range.specs.declared.range.Kind.TheVariants.{Plain, And, Or}
 use Rattle.level_range.specs.Signal.{Signal, undriven, IsSignal}
 use Rattle.level_range.specs.Levels.{IsFilled}
-use Rattle.level_range.specs.Combine.{IsChoice, Wins, Gives, Combined, IsCombination, better_low, better_high, lower_of, upper_of, joined, combination_of, CombinationLaw}
+use Rattle.level_range.specs.Combine.{IsChoice, Wins, Gives, Combined, IsCombination, better_low, better_high, lower_of, upper_of, join_of, combination_of, CombinationLaw}
 use Rattle.level_range.proofs.Better.{IsBetter, lower, upper}
 use Rattle.level_range.proofs.Best.{best, best-append, best-wins, best-first, best-permutation}
 
@@ -165,7 +165,7 @@ module _ (better : ℤ → ℤ → ℤ) (Before : ℤ → ℤ → Type 0) (law :
   best-moved : (xs ys : List Signal) → IsPermutation xs ys → best better (map bound xs) ≡ best better (map bound ys)
   best-moved xs ys h = best-permutation better Before law (map bound xs) (map bound ys) (IsPermutation-map bound xs ys h)
 
-joined-bounds : (kind : Kind) (xs ys : List Signal) → joined kind (bounds_of kind xs) (bounds_of kind ys) ≡ bounds_of kind (xs ++ ys)
+joined-bounds : (kind : Kind) (xs ys : List Signal) → join_of kind (bounds_of kind xs) (bounds_of kind ys) ≡ bounds_of kind (xs ++ ys)
 joined-bounds Plain xs ys =
     bounds-equal _ _ (best-both better_low _ lower (λ s. s.lo) xs ys) (best-both better_high _ upper (λ s. s.hi) xs ys)
 joined-bounds And xs ys =
@@ -183,7 +183,7 @@ bounds-moved Or xs ys h =
 
 -- the combinations of two lists, joined, are that of both lists, in any order
 pub joined-lists : (kind : Kind) (xs ys zs : List Signal) (a b : Signal) → HasSome a → HasSome b →
-    IsCombination kind xs a → IsCombination kind ys b → IsPermutation (xs ++ ys) zs → IsCombination kind zs (joined kind a b)
+    IsCombination kind xs a → IsCombination kind ys b → IsPermutation (xs ++ ys) zs → IsCombination kind zs (join_of kind a b)
 joined-lists kind xs ys zs a b some_a some_b is_a is_b moved =
     let all_xs = IsCombination-some kind xs a some_a is_a in
     let all_ys = IsCombination-some kind ys b some_b is_b in
@@ -207,27 +207,27 @@ no-signal Plain = bounds_of-is Plain [] (λ k d lt. absurd (omega (arith, lt)))
 no-signal And = bounds_of-is And [] (λ k d lt. absurd (omega (arith, lt)))
 no-signal Or = bounds_of-is Or [] (λ k d lt. absurd (omega (arith, lt)))
 
-pub two-signals : (kind : Kind) (a b : Signal) → HasSome a → HasSome b → IsCombination kind (a ∷ b ∷ []) (joined kind a b)
+pub two-signals : (kind : Kind) (a b : Signal) → HasSome a → HasSome b → IsCombination kind (a ∷ b ∷ []) (join_of kind a b)
 two-signals kind a b some_a some_b =
     joined-lists kind (a ∷ []) (b ∷ []) (a ∷ b ∷ []) a b some_a some_b
     (one-signal kind a some_a) (one-signal kind b some_b) (IsPermutation-refl (a ∷ b ∷ []))
 
-pub joined-some : (kind : Kind) (a b : Signal) → HasSome a → HasSome b → HasSome (joined kind a b)
+pub joined-some : (kind : Kind) (a b : Signal) → HasSome a → HasSome b → HasSome (join_of kind a b)
 joined-some kind a b some_a some_b =
     let is_a = IsCombination-bounds kind (a ∷ []) a some_a (one-signal kind a some_a) in
     let is_b = IsCombination-bounds kind (b ∷ []) b some_b (one-signal kind b some_b) in
-    let e = ap (λ s. joined kind s b) is_a ∙ ap (joined kind (bounds_of kind (a ∷ []))) is_b ∙ joined-bounds kind (a ∷ []) (b ∷ []) in
+    let e = ap (λ s. join_of kind s b) is_a ∙ ap (join_of kind (bounds_of kind (a ∷ []))) is_b ∙ joined-bounds kind (a ∷ []) (b ∷ []) in
     subst HasSome (sym e)
     (bounds_of-some kind (a ∷ b ∷ []) (All-cons HasSome a (b ∷ []) some_a (All-cons HasSome b [] some_b (λ k d lt. absurd (omega (arith, lt))))))
 
 -- signals joined one after the other
 fold-joined : (kind : Kind) (before rest : List Signal) (s : Signal) → HasSome s → All HasSome rest →
-    IsCombination kind before s → IsCombination kind (before ++ rest) (fold (joined kind) s rest)
+    IsCombination kind before s → IsCombination kind (before ++ rest) (fold (join_of kind) s rest)
 fold-joined kind before [] s some all is = rw (append-nil before) is
 fold-joined kind before (t ∷ rest) s some all is =
     let some_t = All-head HasSome t rest all in
     rw (← append_assoc before (t ∷ []) rest)
-    (fold-joined kind (before ++ t ∷ []) rest (joined kind s t) (joined-some kind s t some some_t) (All-tail HasSome t rest all)
+    (fold-joined kind (before ++ t ∷ []) rest (join_of kind s t) (joined-some kind s t some some_t) (All-tail HasSome t rest all)
     (joined-lists kind before (t ∷ []) (before ++ t ∷ []) s t some some_t is (one-signal kind t some_t) (IsPermutation-refl _)))
 
 pub combination_of-is : (kind : Kind) (signals : List Signal) → All HasSome signals → IsCombination kind signals (combination_of kind signals)
@@ -268,17 +268,17 @@ IsCombination-only kind signals s all is =
 combination_of-bounds : (kind : Kind) (signals : List Signal) → All HasSome signals → combination_of kind signals ≡ bounds_of kind signals
 combination_of-bounds kind signals all = IsCombination-only kind signals _ all (combination_of-is kind signals all)
 
-joined-signal : (kind : Kind) (a b : Signal) → IsSignal a → IsSignal b → IsSignal (joined kind a b)
+joined-signal : (kind : Kind) (a b : Signal) → IsSignal a → IsSignal b → IsSignal (join_of kind a b)
 joined-signal kind a b is_a is_b = record {
   low = lower_of-low kind _ _ _ is_a.low is_b.low;
   order = joined-some kind a b is_a.order is_b.order;
   high = upper_of-high kind _ _ _ is_a.high is_b.high;
 }
 
-fold-signal : (kind : Kind) (s : Signal) (signals : List Signal) → IsSignal s → All IsSignal signals → IsSignal (fold (joined kind) s signals)
+fold-signal : (kind : Kind) (s : Signal) (signals : List Signal) → IsSignal s → All IsSignal signals → IsSignal (fold (join_of kind) s signals)
 fold-signal kind s [] is all = is
 fold-signal kind s (t ∷ rest) is all =
-    fold-signal kind (joined kind s t) rest (joined-signal kind s t is (All-head IsSignal t rest all)) (All-tail IsSignal t rest all)
+    fold-signal kind (join_of kind s t) rest (joined-signal kind s t is (All-head IsSignal t rest all)) (All-tail IsSignal t rest all)
 
 -- the combination of a list, as one law
 pub combination-law : (kind : Kind) → CombinationLaw kind
@@ -297,8 +297,8 @@ combination-law kind = record {
       let second = some-levels others all_others in
       combination_of-bounds kind (signals ++ others) (All-append HasSome signals others first second)
       ∙ sym (joined-bounds kind signals others)
-      ∙ ap (λ s. joined kind s (bounds_of kind others)) (sym (combination_of-bounds kind signals first))
-      ∙ ap (joined kind (combination_of kind signals)) (sym (combination_of-bounds kind others second));
+      ∙ ap (λ s. join_of kind s (bounds_of kind others)) (sym (combination_of-bounds kind signals first))
+      ∙ ap (join_of kind (combination_of kind signals)) (sym (combination_of-bounds kind others second));
   signal = λ signals all. fold-signal kind undriven signals (record { low = omega (arith, ints); order = self _; high = omega (arith, ints) }) all;
 }
   where

@@ -6,7 +6,7 @@ use Rattle.level_range.specs.Signal.{Signal, negative_level, reads, undriven, Is
 use Rattle.level_range.specs.Levels.{Includes}
 use Rattle.level_range.proofs.Combination.{self, trans}
 use Rattle.level_range.specs.Combine.{better_low, better_high}
-use Rattle.level_range.specs.Reduce.{reduced_strength, reduced_level, reduced, IsReduction, IsHull, hull_of}
+use Rattle.level_range.specs.Reduce.{reduced_strength, reduced_level, reduction_of, IsReduction, IsHull, hull_of}
 
 -- a greater strength is not less behind a switch
 reduced_strength-next : (resistive : Bool) (n : ℕ) → reduced_strength resistive n ≤ reduced_strength resistive (suc n)
@@ -95,10 +95,10 @@ unfolding reduced_level
 reduced_level-above true v = grind (arith, ints)
 reduced_level-above false v = grind (arith, ints)
 
-pub reduced-reads : (resistive : Bool) (s : Signal) → reads (reduced resistive s) ≡ reads s
+pub reduced-reads : (resistive : Bool) (s : Signal) → reads (reduction_of resistive s) ≡ reads s
 reduced-reads resistive s = simp (reduced_level-below, reduced_level-above)
 
-pub reduced-is : (resistive : Bool) (s : Signal) → IsSignal s → IsReduction resistive s (reduced resistive s)
+pub reduced-is : (resistive : Bool) (s : Signal) → IsSignal s → IsReduction resistive s (reduction_of resistive s)
 unfolding IsReduction
 reduced-is resistive s is v = (
   λ h. (
@@ -124,7 +124,7 @@ hull_of-is a b is_a is_b = record {
 }
 
 -- what is contained stays contained behind a switch, and beside z
-pub reduced-monotone : (resistive : Bool) (a b : Signal) → IsSignal b → Includes a b → Includes (reduced resistive a) (reduced resistive b)
+pub reduced-monotone : (resistive : Bool) (a b : Signal) → IsSignal b → Includes a b → Includes (reduction_of resistive a) (reduction_of resistive b)
 reduced-monotone resistive a b is_b within v h =
     let lo = within b.lo (record { from_lo = self _; to_hi = is_b.order }) in
     let hi = within b.hi (record { from_lo = is_b.order; to_hi = self _ }) in

@@ -59,12 +59,12 @@ upper_of And x y = better_low x y
 upper_of Or x y = better_high x y
 
 -- two signals joined by their bounds
-abbrev pub joined : Kind → Signal → Signal → Signal
-joined kind a b = record { lo = lower_of kind a.lo b.lo; hi = upper_of kind a.hi b.hi }
+abbrev pub join_of : Kind → Signal → Signal → Signal
+join_of kind a b = record { lo = lower_of kind a.lo b.lo; hi = upper_of kind a.hi b.hi }
 
 -- signals joined one after the other, from z on
 abbrev pub combination_of : Kind → List Signal → Signal
-combination_of kind signals = fold (joined kind) undriven signals
+combination_of kind signals = fold (join_of kind) undriven signals
 
 -- The combination of a list of signals, in any order and grouping: it is the signals joined one after the other, it is
 -- the only signal that all choices give, and that of two lists together is that of the one joined with that of the other.
@@ -77,5 +77,5 @@ pub record CombinationLaw (kind : Kind) : Type 0 where
   pub order : (signals others : List Signal) → All IsSignal signals → IsPermutation signals others
       → combination_of kind signals ≡ combination_of kind others
   pub grouping : (signals others : List Signal) → All IsSignal signals → All IsSignal others
-      → combination_of kind (signals ++ others) ≡ joined kind (combination_of kind signals) (combination_of kind others)
+      → combination_of kind (signals ++ others) ≡ join_of kind (combination_of kind signals) (combination_of kind others)
   pub signal : (signals : List Signal) → All IsSignal signals → IsSignal (combination_of kind signals)

@@ -30,8 +30,8 @@ unfoldable pub IsReduction : Bool → Signal → Signal → Type 0
 IsReduction resistive s t = IsFilled (Reduced resistive s) t
 
 -- a signal reduced by its bounds
-abbrev pub reduced : Bool → Signal → Signal
-reduced resistive s = record { lo = reduced_level resistive s.lo; hi = reduced_level resistive s.hi }
+abbrev pub reduction_of : Bool → Signal → Signal
+reduction_of resistive s = record { lo = reduced_level resistive s.lo; hi = reduced_level resistive s.hi }
 
 -- the signal includes what the map makes of each signal that a includes
 abbrev pub IncludesImages : Signal → (Signal → Signal) → Signal → Type 0

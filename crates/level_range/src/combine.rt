@@ -1,5 +1,5 @@
 ghost use Rattle.std.specs.Prelude.{◌≡◌, [], ◌∷◌};
-ghost use Rattle.level_range.specs.Combine.{better_low as low_of, better_high as high_of, lower_of, upper_of, joined, IsCombination};
+ghost use Rattle.level_range.specs.Combine.{better_low as low_of, better_high as high_of, lower_of, upper_of, join_of, IsCombination};
 
 use crate::range::{Kind, Range};
 
@@ -57,7 +57,7 @@ fn upper_bound(x: i8, y: i8, kind: Kind) -> i8
 /// order and grouping, gives the one combination of the list. What an ambiguous strength gives
 /// against an equal or another ambiguous one is this project's own.
 pub fn join(a: Range, b: Range, kind: Kind) -> Range
-    ensures bounds { result ≡ joined kind a b }
+    ensures bounds { result ≡ join_of kind a b }
     ensures combination { IsCombination kind (a ∷ b ∷ []) result }
 {
     Range::new(lower_bound(a.lo, b.lo, kind), upper_bound(a.hi, b.hi, kind))

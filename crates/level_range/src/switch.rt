@@ -1,6 +1,6 @@
 ghost use Rattle.std.specs.Prelude.{◌≡◌, ◌≤◌, unsigned_abs};
 ghost use Rattle.level_range.specs.Signal.{reads, undriven};
-ghost use Rattle.level_range.specs.Reduce.{reduced_strength as strength_of, reduced_level as level_of, reduced, IsReduction, IncludesImages, IsHull, hull_of, hull_with_z};
+ghost use Rattle.level_range.specs.Reduce.{reduced_strength as strength_of, reduced_level as level_of, reduction_of, IsReduction, IncludesImages, IsHull, hull_of, hull_with_z};
 
 use crate::range::Range;
 
@@ -32,12 +32,12 @@ fn reduced_level(level: i8, resistive: bool) -> i8
 
 /// The signal behind a switch that conducts: each level reduced by its size, with its sign.
 pub fn reduce(a: Range, resistive: bool) -> Range
-    ensures bounds { result ≡ reduced resistive a }
+    ensures bounds { result ≡ reduction_of resistive a }
     ensures levels { IsReduction resistive a result }
     ensures reading { reads result ≡ reads a }
     ensures weaker_lo { unsigned_abs result.lo ≤ unsigned_abs a.lo }
     ensures weaker_hi { unsigned_abs result.hi ≤ unsigned_abs a.hi }
-    ensures monotone { IncludesImages result (reduced resistive) a }
+    ensures monotone { IncludesImages result (reduction_of resistive) a }
 {
     Range::new(
         reduced_level(a.lo, resistive),

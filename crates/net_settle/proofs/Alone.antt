@@ -7,7 +7,7 @@ use Rattle.level_range.specs.declared.range.Kind.{Kind}
 use Rattle.level_range.specs.Signal.{Signal, IsSignal, undriven}
 use Rattle.net_settle.specs.declared.shape.Link.{Link}
 use Rattle.net_settle.specs.ByLevels.{settled}
-use Rattle.net_settle.specs.Charges.{charged_signals, chosen, chosen_signals, signal_at, excludes_zero}
+use Rattle.net_settle.specs.Charges.{charged_signals, prefer_driven, prefer_driven_signals, signal_at, excludes_zero}
 use Rattle.net_settle.specs.Settling.{AreSettled}
 use Rattle.net_settle.proofs.Laws.{settled-are_settled}
 use Rattle.net_settle.proofs.Listed.{settled-alone, one_list, one_signal, chosen_signals-all}
@@ -56,27 +56,27 @@ module _ (links : List Link) (on : List Conduct) (own driven : List Signal) (fir
         without_links links on charged none
         (one_signal charged second one_charged second_signal (read_one charged second one_charged second_is))
 
-    all_chosen : (out : List Signal) → length out ≡ 1 → get_or out 0 undriven ≡ chosen (signal_at own 0) (signal_at charged 0) →
-        out ≡ chosen_signals (settled (zip links on) own) (settled (zip links on) (charged_signals kinds levels own charges (settled (zip links on) own)))
+    all_chosen : (out : List Signal) → length out ≡ 1 → get_or out 0 undriven ≡ prefer_driven (signal_at own 0) (signal_at charged 0) →
+        out ≡ prefer_driven_signals (settled (zip links on) own) (settled (zip links on) (charged_signals kinds levels own charges (settled (zip links on) own)))
     all_chosen out one_out here =
         chosen_signals-all own charged out (one_out ∙ sym one) (λ n lt.
         let z : n ≡ 0 = omega arith in
-        let P : ℕ → Type 0 = λ i. get_or out i undriven ≡ chosen (signal_at own i) (signal_at charged i) in
+        let P : ℕ → Type 0 = λ i. get_or out i undriven ≡ prefer_driven (signal_at own i) (signal_at charged i) in
         subst P (sym z) here)
-        ∙ ap (λ d. chosen_signals d charged) (sym own_settled)
-        ∙ ap (chosen_signals (settled (zip links on) own)) (sym charged_settled)
-        ∙ ap (λ s. chosen_signals (settled (zip links on) own) (settled (zip links on) s))
+        ∙ ap (λ d. prefer_driven_signals d charged) (sym own_settled)
+        ∙ ap (prefer_driven_signals (settled (zip links on) own)) (sym charged_settled)
+        ∙ ap (λ s. prefer_driven_signals (settled (zip links on) own) (settled (zip links on) s))
         (charged_is ∙ ap (charged_signals kinds levels own charges) alone-driven)
 
     pub alone-excluded : (out : List Signal) → excludes_zero first ≡ true → out ≡ slice_set charged 0 first →
-        out ≡ chosen_signals (settled (zip links on) own) (settled (zip links on) (charged_signals kinds levels own charges (settled (zip links on) own)))
+        out ≡ prefer_driven_signals (settled (zip links on) own) (settled (zip links on) (charged_signals kinds levels own charges (settled (zip links on) own)))
     alone-excluded out excluded is =
         all_chosen out (ap length is ∙ length-set charged 0 first ∙ one_charged)
         (ap (λ l. get_or l 0 undriven) is ∙ get_or-set_same charged 0 first undriven (omega arith) ∙ first_own
         ∙ ap (λ b. cond b (signal_at own 0) (signal_at charged 0)) (sym excluded ∙ ap excludes_zero first_own))
 
     pub alone-second : (out : List Signal) → excludes_zero first ≡ false → out ≡ charged →
-        out ≡ chosen_signals (settled (zip links on) own) (settled (zip links on) (charged_signals kinds levels own charges (settled (zip links on) own)))
+        out ≡ prefer_driven_signals (settled (zip links on) own) (settled (zip links on) (charged_signals kinds levels own charges (settled (zip links on) own)))
     alone-second out excluded is =
         all_chosen out (ap length is ∙ one_charged)
         (ap (λ l. get_or l 0 undriven) is
@@ -89,23 +89,23 @@ module _ (links : List Link) (on : List Conduct) (own driven : List Signal) (fir
         (settled-are_settled (zip links on) charged
         (one_signal charged second one_charged second_signal (read_one charged second one_charged second_is))))
 
-    driven-all : (out : List Signal) → length out ≡ 1 → get_or out 0 undriven ≡ chosen (signal_at driven 0) (signal_at charged 0) → out ≡ chosen_signals driven charged
+    driven-all : (out : List Signal) → length out ≡ 1 → get_or out 0 undriven ≡ prefer_driven (signal_at driven 0) (signal_at charged 0) → out ≡ prefer_driven_signals driven charged
     driven-all out one_out here =
         chosen_signals-all driven charged out (one_out ∙ sym (ap length driven_is ∙ one)) (λ n lt.
         let z : n ≡ 0 = (let e = ap length driven_is in omega arith) in
-        let P : ℕ → Type 0 = λ i. get_or out i undriven ≡ chosen (signal_at driven i) (signal_at charged i) in
+        let P : ℕ → Type 0 = λ i. get_or out i undriven ≡ prefer_driven (signal_at driven i) (signal_at charged i) in
         subst P (sym z) here)
 
     first_driven_is : first ≡ signal_at driven 0
     first_driven_is = first_own ∙ ap (λ l. signal_at l 0) (sym driven_is)
 
-    pub chosen-excluded : (out : List Signal) → excludes_zero first ≡ true → out ≡ slice_set charged 0 first → out ≡ chosen_signals driven charged
+    pub chosen-excluded : (out : List Signal) → excludes_zero first ≡ true → out ≡ slice_set charged 0 first → out ≡ prefer_driven_signals driven charged
     chosen-excluded out excluded is =
         driven-all out (ap length is ∙ length-set charged 0 first ∙ one_charged)
         (ap (λ l. get_or l 0 undriven) is ∙ get_or-set_same charged 0 first undriven (omega arith) ∙ first_driven_is
         ∙ ap (λ b. cond b (signal_at driven 0) (signal_at charged 0)) (sym excluded ∙ ap excludes_zero first_driven_is))
 
-    pub chosen-second : (out : List Signal) → excludes_zero first ≡ false → out ≡ charged → out ≡ chosen_signals driven charged
+    pub chosen-second : (out : List Signal) → excludes_zero first ≡ false → out ≡ charged → out ≡ prefer_driven_signals driven charged
     chosen-second out excluded is =
         driven-all out (ap length is ∙ one_charged)
         (ap (λ l. get_or l 0 undriven) is

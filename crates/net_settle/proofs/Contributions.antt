@@ -7,7 +7,7 @@ use Rattle.std.proofs.lemmas.Bool.{cases_Bool}
 use Rattle.level_range.specs.Signal.{Signal, undriven, IsSignal, negative_level}
 use Rattle.level_range.specs.declared.range.Kind.{Kind}
 use Rattle.level_range.specs.declared.range.Kind.TheVariants.{Plain, And, Or}
-use Rattle.level_range.specs.Combine.{lower_of, upper_of, joined}
+use Rattle.level_range.specs.Combine.{lower_of, upper_of, join_of}
 use Rattle.level_range.specs.Reduce.{hull_of}
 use Rattle.level_range.proofs.Better.{lower, upper}
 use Rattle.level_range.proofs.Combination.{lower_of-low, upper_of-high, lower_of-upper_of}
@@ -15,7 +15,7 @@ use Rattle.level_range.proofs.Reduction.{undriven-is}
 use Rattle.net_settle.specs.declared.side.Side.{Side}
 use Rattle.net_settle.specs.declared.side.Side.TheVariants.{Lower, Upper}
 use Rattle.net_settle.specs.Bounds.{better, bound_of, favoured, is_favoured}
-use Rattle.net_settle.specs.Charges.{level, excludes_zero, widened, contribution, charge_bound, charge_left, chosen}
+use Rattle.net_settle.specs.Charges.{level, excludes_zero, widened, contribution, charge_bound, charge_left, prefer_driven}
 use Rattle.net_settle.specs.Conditions.{IsCharge, IsChargeLevel}
 use Rattle.net_settle.specs.Progress.{rank}
 use Rattle.net_settle.proofs.ChargeBounds.{charge_left-some}
@@ -111,7 +111,7 @@ combine : Side → Kind → ℤ → ℤ → ℤ
 combine Lower kind x y = lower_of kind x y
 combine Upper kind x y = upper_of kind x y
 
-bound-joined : (side : Side) (kind : Kind) (a b : Signal) → bound_of side (joined kind a b) ≡ combine side kind (bound_of side a) (bound_of side b)
+bound-joined : (side : Side) (kind : Kind) (a b : Signal) → bound_of side (join_of kind a b) ≡ combine side kind (bound_of side a) (bound_of side b)
 unfolding combine
 bound-joined Lower kind a b = refl
 bound-joined Upper kind a b = refl
@@ -147,22 +147,22 @@ PlainOrAlone kind own driven charged second = (kind ≡ Plain) ⊎ ((driven ≡ 
 
 -- what a net's charge contributes next
 abbrev pub next_contribution : ℕ → Signal → Signal → Signal → Signal
-next_contribution c charge driven second = contribution c (charge_left c charge (chosen driven second)) driven
+next_contribution c charge driven second = contribution c (charge_left c charge (prefer_driven driven second)) driven
 
 -- what the next contribution makes of a net's own bound
 pub record Keeps (side : Side) (kind : Kind) (c : ℕ) (own charge driven second : Signal) : Type 0 where
   pub weaker :
-      rank side (bound_of side (joined kind own (next_contribution c charge driven second))) ≤ rank side (bound_of side second)
+      rank side (bound_of side (join_of kind own (next_contribution c charge driven second))) ≤ rank side (bound_of side second)
   pub kept :
-      bound_of side second ≡ bound_of side (joined kind own (contribution c charge driven))
-      → bound_of side second ≡ bound_of side (joined kind own (next_contribution c charge driven second))
+      bound_of side second ≡ bound_of side (join_of kind own (contribution c charge driven))
+      → bound_of side second ≡ bound_of side (join_of kind own (next_contribution c charge driven second))
 
 module _ (side : Side) (kind : Kind) (own charge driven second : Signal) where
   abbrev pub Settled : ℕ → Type 0
-  Settled c = rank side (bound_of side (joined kind own (contribution c charge driven))) ≤ rank side (bound_of side second)
+  Settled c = rank side (bound_of side (join_of kind own (contribution c charge driven))) ≤ rank side (bound_of side second)
 
   keeps-same : (c : ℕ) → Settled c →
-      bound_of side (joined kind own (contribution c charge driven)) ≡ bound_of side (joined kind own (next_contribution c charge driven second)) →
+      bound_of side (join_of kind own (contribution c charge driven)) ≡ bound_of side (join_of kind own (next_contribution c charge driven second)) →
       Keeps side kind c own charge driven second
   keeps-same c le e = record {
     weaker = subst (λ (v : ℤ). rank side v ≤ rank side (bound_of side second)) e le;
@@ -170,11 +170,11 @@ module _ (side : Side) (kind : Kind) (own charge driven second : Signal) where
   }
 
   keeps-some : (m : ℕ) → Settled (suc m) → excludes_zero driven ≡ false → is_favoured side (bound_of side driven) ≡ false →
-      IsCharge (suc m) charge → second.lo ≤ℤ second.hi → PlainOrAlone kind own driven (joined kind own (contribution (suc m) charge driven)) second →
+      IsCharge (suc m) charge → second.lo ≤ℤ second.hi → PlainOrAlone kind own driven (join_of kind own (contribution (suc m) charge driven)) second →
       Keeps side kind (suc m) own charge driven second
   keeps-some m le within sign is order how =
       let some : suc m ≢ 0 = λ (z : suc m ≡ 0). absurd (omega arith) in
-      let same : chosen driven second ≡ second = ap (λ b. cond b driven second) within in
+      let same : prefer_driven driven second ≡ second = ap (λ b. cond b driven second) within in
       let k : bound_of side (contribution (suc m) charge driven) ≡ bound_of side charge =
       bound-contribution side m charge driven within is ∙ ap (λ b. cond b (favoured side (suc m)) (bound_of side charge)) sign in
       let left = left-charge (suc m) charge second some order in
@@ -185,10 +185,10 @@ module _ (side : Side) (kind : Kind) (own charge driven second : Signal) where
       ∙ left-bound side (suc m) charge second some in
       elim how [
         | inl plain ↦
-            let a : bound_of side (joined kind own (contribution (suc m) charge driven)) ≡ better side (bound_of side own) (bound_of side charge) =
+            let a : bound_of side (join_of kind own (contribution (suc m) charge driven)) ≡ better side (bound_of side own) (bound_of side charge) =
             bound-joined side kind own _ ∙ ap (λ q. combine side q (bound_of side own) (bound_of side (contribution (suc m) charge driven))) plain
             ∙ combine-plain side _ _ ∙ ap (better side (bound_of side own)) k in
-            let b : bound_of side (joined kind own (next_contribution (suc m) charge driven second)) ≡ better side (bound_of side own) (charge_bound (suc m) (bound_of side second)) =
+            let b : bound_of side (join_of kind own (next_contribution (suc m) charge driven second)) ≡ better side (bound_of side own) (charge_bound (suc m) (bound_of side second)) =
             bound-joined side kind own _ ∙ ap (λ q. combine side q (bound_of side own) (bound_of side (next_contribution (suc m) charge driven second))) plain
             ∙ combine-plain side _ _ ∙ ap (better side (bound_of side own)) next_is in
             let le2 = subst (λ (v : ℤ). rank side v ≤ rank side (bound_of side second)) a le in
@@ -199,10 +199,10 @@ module _ (side : Side) (kind : Kind) (own charge driven second : Signal) where
             }
         | inr (driven_is, second_is) ↦
             let zero : bound_of side own ≡ pos 0 = ap (bound_of side) (sym driven_is) ∙ bound_zero side driven within sign in
-            let a : bound_of side (joined kind own (contribution (suc m) charge driven)) ≡ bound_of side charge =
+            let a : bound_of side (join_of kind own (contribution (suc m) charge driven)) ≡ bound_of side charge =
             bound-joined side kind own _ ∙ ap (λ x. combine side kind x (bound_of side (contribution (suc m) charge driven))) zero
             ∙ combine-none side kind _ ∙ k in
-            let b : bound_of side (joined kind own (next_contribution (suc m) charge driven second)) ≡ bound_of side charge =
+            let b : bound_of side (join_of kind own (next_contribution (suc m) charge driven second)) ≡ bound_of side charge =
             bound-joined side kind own _ ∙ ap (λ x. combine side kind x (bound_of side (next_contribution (suc m) charge driven second))) zero
             ∙ combine-none side kind _ ∙ next_is
             ∙ ap (charge_bound (suc m)) (ap (bound_of side) second_is ∙ a)
@@ -212,20 +212,20 @@ module _ (side : Side) (kind : Kind) (own charge driven second : Signal) where
 
   -- no bound changes for the better, and none that is a net's own one changes
   pub keeps : (c : ℕ) → Settled c → (c ≢ 0 → IsCharge c charge) → second.lo ≤ℤ second.hi →
-      PlainOrAlone kind own driven (joined kind own (contribution c charge driven)) second → Keeps side kind c own charge driven second
+      PlainOrAlone kind own driven (join_of kind own (contribution c charge driven)) second → Keeps side kind c own charge driven second
   keeps zero le is order how = keeps-same zero le refl
   keeps (suc m) le is order how = elim (cases_Bool (excludes_zero driven)) [
     | inl e ↦
-        keeps-same (suc m) le (ap (λ s. bound_of side (joined kind own s))
-        (contribution-excluded (suc m) charge driven e ∙ sym (contribution-excluded (suc m) (charge_left (suc m) charge (chosen driven second)) driven e)))
+        keeps-same (suc m) le (ap (λ s. bound_of side (join_of kind own s))
+        (contribution-excluded (suc m) charge driven e ∙ sym (contribution-excluded (suc m) (charge_left (suc m) charge (prefer_driven driven second)) driven e)))
     | inr e ↦ elim (cases_Bool (is_favoured side (bound_of side driven))) [
       | inl f ↦
           let some : suc m ≢ 0 = λ (z : suc m ≡ 0). absurd (omega arith) in
-          let same : chosen driven second ≡ second = ap (λ b. cond b driven second) e in
+          let same : prefer_driven driven second ≡ second = ap (λ b. cond b driven second) e in
           let left = subst (λ s. IsCharge (suc m) (charge_left (suc m) charge s)) (sym same) (left-charge (suc m) charge second some order) in
           let k = bound-contribution side m charge driven e (is some) ∙ ap (λ b. cond b (favoured side (suc m)) (bound_of side charge)) f in
-          let n = bound-contribution side m (charge_left (suc m) charge (chosen driven second)) driven e left
-          ∙ ap (λ b. cond b (favoured side (suc m)) (bound_of side (charge_left (suc m) charge (chosen driven second)))) f in
+          let n = bound-contribution side m (charge_left (suc m) charge (prefer_driven driven second)) driven e left
+          ∙ ap (λ b. cond b (favoured side (suc m)) (bound_of side (charge_left (suc m) charge (prefer_driven driven second)))) f in
           keeps-same (suc m) le
           (bound-joined side kind own _ ∙ ap (combine side kind (bound_of side own)) (k ∙ sym n) ∙ sym (bound-joined side kind own _))
       | inr f ↦ keeps-some m le e f (is (λ (z : suc m ≡ 0). absurd (omega arith))) order how
@@ -285,7 +285,7 @@ contribution-signal (suc m) charge driven level is = elim (cases_Bool (excludes_
         subst IsSignal (sym (same_signal (wide low high (suc m) charge) _ _ (wide-lower low high m charge sl) (wide-upper low high m charge sh)))
         (by_bounds low high m charge.lo charge.hi le sl sh (charge-order m charge is))
 
-pub joined-signal : (kind : Kind) (a b : Signal) → IsSignal a → IsSignal b → IsSignal (joined kind a b)
+pub joined-signal : (kind : Kind) (a b : Signal) → IsSignal a → IsSignal b → IsSignal (join_of kind a b)
 joined-signal kind a b sa sb = record {
   low = lower_of-low kind (negsuc 6) a.lo b.lo sa.low sb.low;
   order = lower_of-upper_of kind a.lo b.lo a.hi b.hi sa.order sb.order;
@@ -293,6 +293,6 @@ joined-signal kind a b sa sb = record {
 }
 
 pub charged-signal : (kind : Kind) (c : ℕ) (own charge driven : Signal) → IsSignal own → IsChargeLevel c → (c ≢ 0 → IsCharge c charge) →
-    IsSignal (joined kind own (contribution c charge driven))
+    IsSignal (join_of kind own (contribution c charge driven))
 charged-signal kind c own charge driven is level charged =
     joined-signal kind own (contribution c charge driven) is (contribution-signal c charge driven level charged)

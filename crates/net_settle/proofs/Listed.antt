@@ -15,7 +15,7 @@ use Rattle.net_settle.proofs.Rounds.{settled_bounds-settled}
 use Rattle.net_settle.proofs.SameSignal.{same_signal}
 use Rattle.net_settle.proofs.Signals.{bounds_of-at, signals-most}
 use Rattle.net_settle.specs.ByLevels.{signals_between, settled, settled_bounds}
-use Rattle.net_settle.specs.Charges.{signal_at, chosen, chosen_signals}
+use Rattle.net_settle.specs.Charges.{signal_at, prefer_driven, prefer_driven_signals}
 
 pub length-signals_between : (lower upper : List ℤ) (nets : ℕ) → length (signals_between lower upper nets) ≡ nets
 unfolding signals_between
@@ -32,8 +32,8 @@ unfolding signals_between
 signals_between-all lower upper nets signals long each = fill_by_all _ signals nets undriven long each
 
 pub chosen_signals-all : (driven second signals : List Signal) → length signals ≡ length driven →
-    ((n : ℕ) → n < length driven → get_or signals n undriven ≡ chosen (signal_at driven n) (signal_at second n)) → signals ≡ chosen_signals driven second
-unfolding chosen_signals
+    ((n : ℕ) → n < length driven → get_or signals n undriven ≡ prefer_driven (signal_at driven n) (signal_at second n)) → signals ≡ prefer_driven_signals driven second
+unfolding prefer_driven_signals
 chosen_signals-all driven second signals long each = fill_by_all _ signals (length driven) undriven long each
 
 -- signals between the bounds that settle are those that settle

@@ -11,7 +11,7 @@ use Rattle.net_settle.specs.declared.shape.Link.{Link}
 use Rattle.net_settle.specs.declared.side.Side.{Side}
 use Rattle.net_settle.specs.Bounds.{Switch, at, carried, favoured, opposed}
 use Rattle.net_settle.specs.Settling.{Joins, IsSettled}
-use Rattle.net_settle.specs.ByLevels.{taken, own_taken, carried_taken, rounds, spread, spread_from, settled_bounds}
+use Rattle.net_settle.specs.ByLevels.{take_level, take_own, take_carried, rounds, spread, spread_from, settled_bounds}
 use Rattle.net_settle.specs.Progress.{rank, IsDone, without}
 use Rattle.net_settle.proofs.Ranks.{rank-none, rank-favoured, rank-opposed}
 use Rattle.net_settle.proofs.Walks.{IsIdle, Offered, takes, finishes, settles, starts}
@@ -81,13 +81,13 @@ moves-then A B C before between after both (inr (e, a)) (inl lt) =
     let f : without between ≡ without before = ap without e in inl (omega arith)
 moves-then A B C before between after both (inr (e, a)) (inr (f, b)) = inr (f ∙ e, both before a (subst B e b))
 
-pub taken-takes : (v : ℤ) (n : ℕ) (comes : ℤ) (bounds : List ℤ) → at bounds n ≡ pos 0 → comes ≡ v → taken v n comes bounds ≡ slice_set bounds n v
-unfolding taken
+pub taken-takes : (v : ℤ) (n : ℕ) (comes : ℤ) (bounds : List ℤ) → at bounds n ≡ pos 0 → comes ≡ v → take_level v n comes bounds ≡ slice_set bounds n v
+unfolding take_level
 taken-takes v n comes bounds none e =
     rw ((Decides-int_eq (at bounds n) (pos 0)).1 none, (Decides-int_eq comes v).1 e) refl
 
-pub taken-stays : (v : ℤ) (n : ℕ) (comes : ℤ) (bounds : List ℤ) → (at bounds n ≡ pos 0 → comes ≢ v) → taken v n comes bounds ≡ bounds
-unfolding taken
+pub taken-stays : (v : ℤ) (n : ℕ) (comes : ℤ) (bounds : List ℤ) → (at bounds n ≡ pos 0 → comes ≢ v) → take_level v n comes bounds ≡ bounds
+unfolding take_level
 taken-stays v n comes bounds ne = elim (int_eq_cases (at bounds n) (pos 0)) [
   | inl (t, e) ↦ elim (int_eq_cases comes v) [
     | inl (_, e2) ↦ absurd (ne e e2)
@@ -103,7 +103,7 @@ module _ (side : Side) (switches : List Switch) (own : List ℤ) where
 
   pub taken-moves : (r : ℕ) (v : ℤ) (n : ℕ) (comes : List ℤ → ℤ) (bounds : List ℤ) → IsDone side switches own (suc r) bounds →
       rank side v ≡ suc r → (comes bounds ≡ v → Offered side switches own bounds n v) →
-      IsDone side switches own (suc r) (taken v n (comes bounds) bounds) × Falls (TakesNone v n comes) bounds (taken v n (comes bounds) bounds)
+      IsDone side switches own (suc r) (take_level v n (comes bounds) bounds) × Falls (TakesNone v n comes) bounds (take_level v n (comes bounds) bounds)
   unfolding Falls TakesNone
   taken-moves r v n comes bounds done level offered = elim (cases_lt n (length own)) [
     | inl lt ↦ elim (int_eq_cases (at bounds n) (pos 0)) [
@@ -122,7 +122,7 @@ module _ (side : Side) (switches : List Switch) (own : List ℤ) where
       some : v ≢ pos 0
       some e = let z = rank-none side in let f : rank side v ≡ rank side (pos 0) = ap (rank side) e in absurd (omega arith)
 
-      past : length bounds ≤ n → taken v n (comes bounds) bounds ≡ bounds
+      past : length bounds ≤ n → take_level v n (comes bounds) bounds ≡ bounds
       past ge = elim (int_eq_cases (comes bounds) v) [
         | inl (_, e) ↦ taken-takes v n (comes bounds) bounds (get_or_past bounds n (pos 0) ge) e ∙ set_past bounds n v ge
         | inr (_, ne) ↦ taken-stays v n (comes bounds) bounds (λ _. ne)
@@ -132,15 +132,15 @@ module _ (side : Side) (switches : List Switch) (own : List ℤ) where
   OwnIdle v k bounds = (n : ℕ) → n < k → n < length own → at bounds n ≡ pos 0 → at own n ≢ v
 
   own-moves : (r : ℕ) (v : ℤ) (k : ℕ) (bounds : List ℤ) → IsDone side switches own (suc r) bounds → rank side v ≡ suc r →
-      IsDone side switches own (suc r) (own_taken v own k bounds) × Falls (OwnIdle v k) bounds (own_taken v own k bounds)
+      IsDone side switches own (suc r) (take_own v own k bounds) × Falls (OwnIdle v k) bounds (take_own v own k bounds)
   unfolding Falls OwnIdle TakesNone
   own-moves r v zero bounds done level = (done, inr (refl, λ n lt. absurd (omega arith)))
   own-moves r v (suc k) bounds done level =
       let before = own-moves r v k bounds done level in
-      let next = taken-moves r v k (λ _. at own k) (own_taken v own k bounds) before.0 level own_offers in
+      let next = taken-moves r v k (λ _. at own k) (take_own v own k bounds) before.0 level own_offers in
       (next.0, moves-then (OwnIdle v k) (TakesNone v k (λ _. at own k)) (OwnIdle v (suc k)) _ _ _ both before.1 next.1)
     where
-      own_offers : at own k ≡ v → Offered side switches own (own_taken v own k bounds) k v
+      own_offers : at own k ≡ v → Offered side switches own (take_own v own k bounds) k v
       own_offers e = inl e
 
       both : (bounds : List ℤ) → OwnIdle v k bounds → TakesNone v k (λ _. at own k) bounds → OwnIdle v (suc k) bounds
@@ -156,16 +156,16 @@ module _ (side : Side) (switches : List Switch) (own : List ℤ) where
 
   carried-moves : (r : ℕ) (v : ℤ) (part : List Switch) → ((s : Switch) → Contains part s → Contains switches s) → (bounds : List ℤ) →
       IsDone side switches own (suc r) bounds → rank side v ≡ suc r →
-      IsDone side switches own (suc r) (carried_taken side v part bounds) × Falls (CarriedIdle v part) bounds (carried_taken side v part bounds)
+      IsDone side switches own (suc r) (take_carried side v part bounds) × Falls (CarriedIdle v part) bounds (take_carried side v part bounds)
   unfolding Falls CarriedIdle TakesNone
   carried-moves r v [] inside bounds done level = (done, inr (refl, λ link conduct m n (k, lt, _). absurd (omega arith)))
   carried-moves r v ((link, conduct) ∷ part) inside bounds done level =
       let to : List ℤ → ℤ = λ b. carried side link conduct (at b link.a) in
       let fro : List ℤ → ℤ = λ b. carried side link conduct (at b link.b) in
       let first = taken-moves r v link.b to bounds done level (offers bounds link.a link.b (inl (refl, refl))) in
-      let there = taken v link.b (to bounds) bounds in
+      let there = take_level v link.b (to bounds) bounds in
       let second = taken-moves r v link.a fro there first.0 level (offers there link.b link.a (inr (refl, refl))) in
-      let back = taken v link.a (fro there) there in
+      let back = take_level v link.a (fro there) there in
       let rest = carried-moves r v part (λ s h. inside s (Contains-append_right ((link, conduct) ∷ []) part s h)) back second.0 level in
       let two = moves-then (TakesNone v link.b to) (TakesNone v link.a fro)
       (λ b. TakesNone v link.b to b × TakesNone v link.a fro b) bounds there back (λ b x y. (x, y)) first.1 second.1 in
@@ -198,7 +198,7 @@ module _ (side : Side) (switches : List Switch) (own : List ℤ) where
       both b (x, y) z l c m n (suc k, lt, e) joins within none = z l c m n (k, omega arith, e) joins within none
 
   round : ℤ → List ℤ → List ℤ
-  round v bounds = carried_taken side v switches (own_taken v own (length own) bounds)
+  round v bounds = take_carried side v switches (take_own v own (length own) bounds)
 
   Idle : ℤ → List ℤ → Type 0
   Idle v bounds = IsIdle side switches own bounds v
@@ -208,7 +208,7 @@ module _ (side : Side) (switches : List Switch) (own : List ℤ) where
   unfolding round Idle OwnIdle CarriedIdle
   round-moves r v bounds done level =
       let a = own-moves r v (length own) bounds done level in
-      let b = carried-moves r v switches (λ s h. h) (own_taken v own (length own) bounds) a.0 level in (
+      let b = carried-moves r v switches (λ s h. h) (take_own v own (length own) bounds) a.0 level in (
         b.0,
         moves-then (OwnIdle v (length own)) (CarriedIdle v switches) (λ b. IsIdle side switches own b v) _ _ _
             (λ bounds x y. record {

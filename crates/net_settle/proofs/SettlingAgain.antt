@@ -8,14 +8,14 @@ use Rattle.level_range.specs.declared.range.Conduct.{Conduct}
 use Rattle.level_range.specs.declared.range.Kind.{Kind}
 use Rattle.level_range.specs.declared.range.Kind.TheVariants.{Plain, And, Or}
 use Rattle.level_range.specs.Signal.{Signal, undriven, IsSignal}
-use Rattle.level_range.specs.Combine.{joined}
+use Rattle.level_range.specs.Combine.{join_of}
 use Rattle.net_settle.specs.declared.shape.Shape.{Shape}
 use Rattle.net_settle.specs.declared.side.Side.{Side}
 use Rattle.net_settle.specs.declared.side.Side.TheVariants.{Lower, Upper}
 use Rattle.net_settle.specs.Bounds.{Switch, at, bound_of, bounds_of}
 use Rattle.net_settle.specs.Settling.{IsSettled}
 use Rattle.net_settle.specs.ByLevels.{settled}
-use Rattle.net_settle.specs.Charges.{signal_at, contribution, charged_signals, chosen, chosen_signals, charge_left, charges_left, switches_of, driven_signals, island_signals}
+use Rattle.net_settle.specs.Charges.{signal_at, contribution, charged_signals, prefer_driven, prefer_driven_signals, charge_left, charges_left, switches_of, driven_signals, island_signals}
 use Rattle.net_settle.specs.Conditions.{IsIsland, IsCharge, IsChargeLevel, AreCharges, WiredAlone}
 use Rattle.net_settle.specs.Progress.{rank}
 use Rattle.net_settle.proofs.Ranks.{rank-none}
@@ -40,12 +40,12 @@ length-charged kinds levels own charges driven = length-map-range_with_len _ 0 (
 
 charged-at : (kinds : List Kind) (levels : List ℕ) (own charges driven : List Signal) (n : ℕ) (d : Signal) → n < length own →
     get_or (charged_signals kinds levels own charges driven) n d
-    ≡ joined (slice_index_or kinds n Plain) (signal_at own n) (contribution (slice_index_or levels n 0) (signal_at charges n) (signal_at driven n))
+    ≡ join_of (slice_index_or kinds n Plain) (signal_at own n) (contribution (slice_index_or levels n 0) (signal_at charges n) (signal_at driven n))
 unfolding charged_signals
 charged-at kinds levels own charges driven n d h = get_or-map-range_with_len _ 0 (length own) n n d h (omega arith)
 
-chosen-at : (driven second : List Signal) (n : ℕ) (d : Signal) → n < length driven → get_or (chosen_signals driven second) n d ≡ chosen (signal_at driven n) (signal_at second n)
-unfolding chosen_signals
+chosen-at : (driven second : List Signal) (n : ℕ) (d : Signal) → n < length driven → get_or (prefer_driven_signals driven second) n d ≡ prefer_driven (signal_at driven n) (signal_at second n)
+unfolding prefer_driven_signals
 chosen-at driven second n d h = get_or-map-range_with_len _ 0 (length driven) n n d h (omega arith)
 
 left-at : (levels : List ℕ) (charges signals : List Signal) (n : ℕ) (d : Signal) → n < length charges →
@@ -82,7 +82,7 @@ module _ (shape : Shape) (on : List Conduct) (own charges : List Signal)
   second = settled switches first
 
   abbrev left : List Signal
-  left = charges_left shape.charge charges (chosen_signals driven second)
+  left = charges_left shape.charge charges (prefer_driven_signals driven second)
 
   abbrev next : List Signal
   next = charged_signals shape.kinds shape.charge own left driven
@@ -104,14 +104,14 @@ module _ (shape : Shape) (on : List Conduct) (own charges : List Signal)
 
   plain_or_alone : (n : ℕ) → n < length own →
       PlainOrAlone (slice_index_or shape.kinds n Plain) (signal_at own n) (signal_at driven n)
-      (joined (slice_index_or shape.kinds n Plain) (signal_at own n)
+      (join_of (slice_index_or shape.kinds n Plain) (signal_at own n)
       (contribution (slice_index_or shape.charge n 0) (signal_at charges n) (signal_at driven n)))
       (signal_at second n)
   plain_or_alone n lt = by_kind (slice_index_or shape.kinds n Plain) refl
     where
       alone : slice_index_or shape.kinds n Plain ≢ Plain →
           PlainOrAlone (slice_index_or shape.kinds n Plain) (signal_at own n) (signal_at driven n)
-          (joined (slice_index_or shape.kinds n Plain) (signal_at own n)
+          (join_of (slice_index_or shape.kinds n Plain) (signal_at own n)
           (contribution (slice_index_or shape.charge n 0) (signal_at charges n) (signal_at driven n)))
           (signal_at second n)
       alone ne =
@@ -123,7 +123,7 @@ module _ (shape : Shape) (on : List Conduct) (own charges : List Signal)
 
       by_kind : (kind : Kind) → slice_index_or shape.kinds n Plain ≡ kind →
           PlainOrAlone (slice_index_or shape.kinds n Plain) (signal_at own n) (signal_at driven n)
-          (joined (slice_index_or shape.kinds n Plain) (signal_at own n)
+          (join_of (slice_index_or shape.kinds n Plain) (signal_at own n)
           (contribution (slice_index_or shape.charge n 0) (signal_at charges n) (signal_at driven n)))
           (signal_at second n)
       by_kind Plain e = inl e
@@ -141,7 +141,7 @@ module _ (shape : Shape) (on : List Conduct) (own charges : List Signal)
       keeps side (slice_index_or shape.kinds n Plain) (signal_at own n) (signal_at charges n) (signal_at driven n) (signal_at second n)
       (slice_index_or shape.charge n 0) settled_here (charge_is n) (signal_is second (settled-signals switches first first-signals) n).order (plain_or_alone n lt)
     where
-      settled_here : rank side (bound_of side (joined (slice_index_or shape.kinds n Plain) (signal_at own n)
+      settled_here : rank side (bound_of side (join_of (slice_index_or shape.kinds n Plain) (signal_at own n)
           (contribution (slice_index_or shape.charge n 0) (signal_at charges n) (signal_at driven n)))) ≤ rank side (bound_of side (signal_at second n))
       settled_here =
           let inside : n < length (bounds_of side first) = (let a = length-bounds_of side first in let b = length-charged shape.kinds shape.charge own charges driven in omega arith) in
@@ -151,12 +151,12 @@ module _ (shape : Shape) (on : List Conduct) (own charges : List Signal)
           (subst (λ (v : ℤ). rank side (at (bounds_of side first) n) ≤ rank side v) (bounds_of-at side second n) h)
 
   next-at : (n : ℕ) → n < length own →
-      signal_at next n ≡ joined (slice_index_or shape.kinds n Plain) (signal_at own n)
+      signal_at next n ≡ join_of (slice_index_or shape.kinds n Plain) (signal_at own n)
       (next_contribution (slice_index_or shape.charge n 0) (signal_at charges n) (signal_at driven n) (signal_at second n))
   next-at n lt =
       charged-at shape.kinds shape.charge own left driven n undriven lt
-      ∙ ap (λ s. joined (slice_index_or shape.kinds n Plain) (signal_at own n) (contribution (slice_index_or shape.charge n 0) s (signal_at driven n)))
-      (left-at shape.charge charges (chosen_signals driven second) n undriven (let e = island.charge_nets in omega arith)
+      ∙ ap (λ s. join_of (slice_index_or shape.kinds n Plain) (signal_at own n) (contribution (slice_index_or shape.charge n 0) s (signal_at driven n)))
+      (left-at shape.charge charges (prefer_driven_signals driven second) n undriven (let e = island.charge_nets in omega arith)
       ∙ ap (charge_left (slice_index_or shape.charge n 0) (signal_at charges n)) (chosen-at driven second n undriven (let e = length-driven in omega arith)))
 
   same_nets : (side : Side) → length (bounds_of side next) ≡ length (bounds_of side first)
@@ -168,7 +168,7 @@ module _ (shape : Shape) (on : List Conduct) (own charges : List Signal)
   weaker-at side n = elim (cases_lt n (length own)) [
     | inl lt ↦
         subst (λ (v : ℤ). rank side v ≤ rank side (at (bounds_of side second) n)) (sym (bounds_of-at side next n ∙ ap (bound_of side) (next-at n lt)))
-        (subst (λ (v : ℤ). rank side (bound_of side (joined (slice_index_or shape.kinds n Plain) (signal_at own n)
+        (subst (λ (v : ℤ). rank side (bound_of side (join_of (slice_index_or shape.kinds n Plain) (signal_at own n)
         (next_contribution (slice_index_or shape.charge n 0) (signal_at charges n) (signal_at driven n) (signal_at second n)))) ≤ rank side v)
         (sym (bounds_of-at side second n)) (net-keeps side n lt).weaker)
     | inr ge ↦
@@ -200,13 +200,13 @@ module _ (shape : Shape) (on : List Conduct) (own charges : List Signal)
   left-charges : AreCharges shape.charge left
   left-charges n some = elim (cases_lt n (length charges)) [
     | inl lt ↦
-        subst (IsCharge (slice_index_or shape.charge n 0)) (sym (left-at shape.charge charges (chosen_signals driven second) n undriven lt))
-        (left-charge (slice_index_or shape.charge n 0) (signal_at charges n) (signal_at (chosen_signals driven second) n) some
+        subst (IsCharge (slice_index_or shape.charge n 0)) (sym (left-at shape.charge charges (prefer_driven_signals driven second) n undriven lt))
+        (left-charge (slice_index_or shape.charge n 0) (signal_at charges n) (signal_at (prefer_driven_signals driven second) n) some
         (subst (λ s. s.lo ≤ℤ s.hi) (sym (chosen-at driven second n undriven (let e = length-driven in let f = island.charge_nets in omega arith))) (chosen-order n)))
     | inr ge ↦ absurd (some (get_or_past shape.charge n 0 (let e = island.levels in let f = island.charge_nets in omega arith)))
   ]
     where
-      chosen-order : (n : ℕ) → (chosen (signal_at driven n) (signal_at second n)).lo ≤ℤ (chosen (signal_at driven n) (signal_at second n)).hi
+      chosen-order : (n : ℕ) → (prefer_driven (signal_at driven n) (signal_at second n)).lo ≤ℤ (prefer_driven (signal_at driven n) (signal_at second n)).hi
       chosen-order n = by_test (excludes_zero (signal_at driven n))
         where
           by_test : (b : Bool) → (cond b (signal_at driven n) (signal_at second n)).lo ≤ℤ (cond b (signal_at driven n) (signal_at second n)).hi
@@ -225,7 +225,7 @@ module _ (shape : Shape) (on : List Conduct) (own charges : List Signal)
       island_signals shape on own (charges_left shape.charge charges (island_signals shape on own charges)) ≡ island_signals shape on own charges
   unfolding island_signals driven_signals
   signals-again =
-      ap (chosen_signals driven) (sym (settled-only switches next second next-signals record { lower = next-settled Lower; upper = next-settled Upper }))
+      ap (prefer_driven_signals driven) (sym (settled-only switches next second next-signals record { lower = next-settled Lower; upper = next-settled Upper }))
 
   -- and so are the charges
   pub charges-again : (settled_signals : List Signal) → settled_signals ≡ island_signals shape on own charges →
@@ -242,7 +242,7 @@ module _ (shape : Shape) (on : List Conduct) (own charges : List Signal)
 
   -- the settled signals of an island are signals, one for each net
   pub length-signals : length (island_signals shape on own charges) ≡ length own
-  unfolding island_signals driven_signals chosen_signals
+  unfolding island_signals driven_signals prefer_driven_signals
   length-signals = length-map-range_with_len _ 0 (length driven) ∙ length-driven
 
   pub signals-are : All IsSignal (island_signals shape on own charges)

@@ -10,7 +10,7 @@ use Rattle.net_settle.specs.declared.shape.Link.{Link}
 use Rattle.net_settle.specs.declared.side.Side.{Side}
 use Rattle.net_settle.specs.Bounds.{Switch, at, bound_of, bounds_of, carried}
 use Rattle.net_settle.specs.Settling.{Joins}
-use Rattle.net_settle.specs.ByLevels.{taken}
+use Rattle.net_settle.specs.ByLevels.{take_level}
 use Rattle.net_settle.specs.Progress.{rank, IsDone, LinkRests, Spreads, Moves, without}
 use Rattle.net_settle.proofs.Walks.{at-other, at-same}
 use Rattle.net_settle.proofs.Rounds.{taken-takes, taken-stays, taken-moves, int_eq_cases, without-set}
@@ -21,8 +21,8 @@ at-bounds_of side own n d h = get_or-map (bound_of side) own n d (pos 0) h
 
 -- a level is taken, or nothing is
 taken_cases : (v : ℤ) (n : ℕ) (comes : ℤ) (bounds : List ℤ) →
-    ((at bounds n ≡ pos 0) × (comes ≡ v) × (taken v n comes bounds ≡ slice_set bounds n v))
-    ⊎ ((at bounds n ≡ pos 0 → comes ≢ v) × (taken v n comes bounds ≡ bounds))
+    ((at bounds n ≡ pos 0) × (comes ≡ v) × (take_level v n comes bounds ≡ slice_set bounds n v))
+    ⊎ ((at bounds n ≡ pos 0 → comes ≢ v) × (take_level v n comes bounds ≡ bounds))
 taken_cases v n comes bounds = elim (int_eq_cases (at bounds n) (pos 0)) [
   | inl (_, none) ↦ elim (int_eq_cases comes v) [
     | inl (_, e) ↦ inl (none, e, taken-takes v n comes bounds none e)
@@ -31,26 +31,26 @@ taken_cases v n comes bounds = elim (int_eq_cases (at bounds n) (pos 0)) [
   | inr (_, some) ↦ inr (λ z. absurd (some z), taken-stays v n comes bounds (λ z. absurd (some z)))
 ]
 
-pub length-taken : (v : ℤ) (n : ℕ) (comes : ℤ) (bounds : List ℤ) → length (taken v n comes bounds) ≡ length bounds
+pub length-taken : (v : ℤ) (n : ℕ) (comes : ℤ) (bounds : List ℤ) → length (take_level v n comes bounds) ≡ length bounds
 length-taken v n comes bounds = elim (taken_cases v n comes bounds) [
   | inl (_, _, e) ↦ ap length e ∙ length-set bounds n v
   | inr (_, e) ↦ ap length e
 ]
 
-pub taken-other : (v : ℤ) (n : ℕ) (comes : ℤ) (bounds : List ℤ) (k : ℕ) → k ≢ n → at (taken v n comes bounds) k ≡ at bounds k
+pub taken-other : (v : ℤ) (n : ℕ) (comes : ℤ) (bounds : List ℤ) (k : ℕ) → k ≢ n → at (take_level v n comes bounds) k ≡ at bounds k
 taken-other v n comes bounds k ne = elim (taken_cases v n comes bounds) [
   | inl (_, _, e) ↦ ap (λ b. at b k) e ∙ at-other bounds n k v ne
   | inr (_, e) ↦ ap (λ b. at b k) e
 ]
 
 -- a net without a bound afterwards had none, and the level didn't come to it
-pub taken-rests : (v : ℤ) (n : ℕ) (comes : ℤ) (bounds : List ℤ) → v ≢ pos 0 → n < length bounds → at (taken v n comes bounds) n ≡ pos 0 → comes ≢ v
+pub taken-rests : (v : ℤ) (n : ℕ) (comes : ℤ) (bounds : List ℤ) → v ≢ pos 0 → n < length bounds → at (take_level v n comes bounds) n ≡ pos 0 → comes ≢ v
 taken-rests v n comes bounds some h none is = elim (taken_cases v n comes bounds) [
   | inl (_, _, e) ↦ some (sym (at-same bounds n v h) ∙ ap (λ b. at b n) (sym e) ∙ none)
   | inr (not, e) ↦ not (ap (λ b. at b n) (sym e) ∙ none) is
 ]
 
-pub taken-grows : (v : ℤ) (n : ℕ) (comes : ℤ) (bounds : List ℤ) → v ≢ pos 0 → n < length bounds → (k : ℕ) → at (taken v n comes bounds) k ≡ pos 0 → at bounds k ≡ pos 0
+pub taken-grows : (v : ℤ) (n : ℕ) (comes : ℤ) (bounds : List ℤ) → v ≢ pos 0 → n < length bounds → (k : ℕ) → at (take_level v n comes bounds) k ≡ pos 0 → at bounds k ≡ pos 0
 taken-grows v n comes bounds some h k none = elim (taken_cases v n comes bounds) [
   | inl (was, _, e) ↦ elim (cases_eq k n) [
     | inl is ↦ ap (at bounds) is ∙ was
@@ -73,13 +73,13 @@ own_taken_none side v own bounds = record {
 }
 
 pub own_taken_more : (side : Side) (v : ℤ) (own initial bounds : List ℤ) (n : ℕ) (comes : ℤ) → v ≢ pos 0 →
-    n < length bounds → comes ≡ at own n → OwnTaken side v own initial bounds n → OwnTaken side v own initial (taken v n comes bounds) (n + 1)
+    n < length bounds → comes ≡ at own n → OwnTaken side v own initial bounds n → OwnTaken side v own initial (take_level v n comes bounds) (n + 1)
 own_taken_more side v own initial bounds n comes some inside is before = record {
   done = λ switches r level done.
       (taken-moves side switches own r v n (λ _. comes) bounds (before.done switches r level done) level (λ e. inl (sym is ∙ e))).0;
   rests = λ k lt none. elim (cases_eq k n) [
     | inl e ↦ λ f.
-        taken-rests v n comes bounds some inside (ap (at (taken v n comes bounds)) (sym e) ∙ none) (is ∙ ap (at own) (sym e) ∙ f)
+        taken-rests v n comes bounds some inside (ap (at (take_level v n comes bounds)) (sym e) ∙ none) (is ∙ ap (at own) (sym e) ∙ f)
     | inr ne ↦ before.rests k (omega arith) (sym (taken-other v n comes bounds k ne) ∙ none)
   ];
 }
@@ -102,7 +102,7 @@ spreads-then side switches v before between after a b = record {
 -- a net takes what a switch carries to it
 taken-spreads : (side : Side) (switches : List Switch) (v : ℤ) (link : Link) (conduct : Conduct) (m n : ℕ) (bounds : List ℤ) →
     Contains switches (link, conduct) → Joins link m n → v ≢ pos 0 → n < length bounds →
-    Spreads side switches v bounds (taken v n (carried side link conduct (at bounds m)) bounds)
+    Spreads side switches v bounds (take_level v n (carried side link conduct (at bounds m)) bounds)
 taken-spreads side switches v link conduct m n bounds there joins some inside =
     let comes = carried side link conduct (at bounds m) in
     record {
@@ -123,8 +123,8 @@ taken-spreads side switches v link conduct m n bounds there joins some inside =
 
 module _ (side : Side) (v : ℤ) (link : Link) (conduct : Conduct) (before there after : List ℤ)
     (some : v ≢ pos 0) (a_inside : link.a < length before) (b_inside : link.b < length before)
-    (there_is : there ≡ taken v link.b (carried side link conduct (at before link.a)) before)
-    (after_is : after ≡ taken v link.a (carried side link conduct (at there link.b)) there) where
+    (there_is : there ≡ take_level v link.b (carried side link conduct (at before link.a)) before)
+    (after_is : after ≡ take_level v link.a (carried side link conduct (at there link.b)) there) where
   same_nets : length there ≡ length before
   same_nets = ap length there_is ∙ length-taken v link.b _ before
 

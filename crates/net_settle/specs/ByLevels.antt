@@ -8,29 +8,29 @@ use Rattle.net_settle.specs.declared.side.Side.TheVariants.{Lower, Upper}
 use Rattle.net_settle.specs.Bounds.{Switch, at, bounds_of, carried, favoured, opposed}
 
 -- a net that has no bound yet takes the level where it is what comes
-unfoldable pub taken : ℤ → ℕ → ℤ → List ℤ → List ℤ
-taken level n comes bounds =
+unfoldable pub take_level : ℤ → ℕ → ℤ → List ℤ → List ℤ
+take_level level n comes bounds =
     if int_eq (at bounds n) (pos 0) && int_eq comes level then slice_set bounds n level else bounds
 
 -- nets take the level where it is their own bound, for the first nets
-abbrev pub own_taken : ℤ → List ℤ → ℕ → List ℤ → List ℤ
-own_taken level own zero bounds = bounds
-own_taken level own (suc n) bounds = taken level n (at own n) (own_taken level own n bounds)
+abbrev pub take_own : ℤ → List ℤ → ℕ → List ℤ → List ℤ
+take_own level own zero bounds = bounds
+take_own level own (suc n) bounds = take_level level n (at own n) (take_own level own n bounds)
 
 -- nets take the level where a switch carries it from the net at its other end, switch by switch
-abbrev pub carried_taken : Side → ℤ → List Switch → List ℤ → List ℤ
-carried_taken side level [] bounds = bounds
-carried_taken side level ((link, conduct) ∷ switches) bounds =
-    let there = taken level link.b (carried side link conduct (at bounds link.a)) bounds in
-    let back = taken level link.a (carried side link conduct (at there link.b)) there in
-    carried_taken side level switches back
+abbrev pub take_carried : Side → ℤ → List Switch → List ℤ → List ℤ
+take_carried side level [] bounds = bounds
+take_carried side level ((link, conduct) ∷ switches) bounds =
+    let there = take_level level link.b (carried side link conduct (at bounds link.a)) bounds in
+    let back = take_level level link.a (carried side link conduct (at there link.b)) there in
+    take_carried side level switches back
 
 -- so many rounds of both
 abbrev pub rounds : Side → ℤ → List Switch → List ℤ → ℕ → List ℤ → List ℤ
 rounds side level switches own zero bounds = bounds
 rounds side level switches own (suc k) bounds =
     rounds side level switches own k
-    (carried_taken side level switches (own_taken level own (length own) bounds))
+    (take_carried side level switches (take_own level own (length own) bounds))
 
 -- the level spreads until no net takes it: a round for each net is enough
 unfoldable pub spread : Side → ℤ → List Switch → List ℤ → List ℤ → List ℤ

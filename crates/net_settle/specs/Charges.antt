@@ -5,7 +5,7 @@ use Rattle.level_range.specs.declared.range.Conduct.{Conduct}
 use Rattle.level_range.specs.declared.range.Kind.{Kind}
 use Rattle.level_range.specs.declared.range.Kind.TheVariants.{Plain}
 use Rattle.level_range.specs.Signal.{Signal, undriven, negative_level}
-use Rattle.level_range.specs.Combine.{joined}
+use Rattle.level_range.specs.Combine.{join_of}
 use Rattle.level_range.specs.Reduce.{hull_of}
 use Rattle.net_settle.specs.declared.shape.Shape.{Shape}
 use Rattle.net_settle.specs.Bounds.{Switch}
@@ -61,23 +61,23 @@ driven_signals shape on own = settled (switches_of shape on) own
 -- the own signals of nets, whose kinds and levels of charges are given, with what the charges contribute
 unfoldable pub charged_signals : List Kind → List ℕ → List Signal → List Signal → List Signal → List Signal
 charged_signals kinds levels own charges driven =
-    map (λ n. joined (slice_index_or kinds n Plain) (signal_at own n)
+    map (λ n. join_of (slice_index_or kinds n Plain) (signal_at own n)
     (contribution (slice_index_or levels n 0) (signal_at charges n) (signal_at driven n)))
     (range_with_len 0 (length own))
 
 -- of two settled signals the driven one where it excludes 0
-abbrev pub chosen : Signal → Signal → Signal
-chosen driven second = if excludes_zero driven then driven else second
+abbrev pub prefer_driven : Signal → Signal → Signal
+prefer_driven driven second = if excludes_zero driven then driven else second
 
-unfoldable pub chosen_signals : List Signal → List Signal → List Signal
-chosen_signals driven second =
-    map (λ n. chosen (signal_at driven n) (signal_at second n)) (range_with_len 0 (length driven))
+unfoldable pub prefer_driven_signals : List Signal → List Signal → List Signal
+prefer_driven_signals driven second =
+    map (λ n. prefer_driven (signal_at driven n) (signal_at second n)) (range_with_len 0 (length driven))
 
 -- the signals: the driven ones where they exclude 0, else those that settle with charges
 unfoldable pub island_signals : Shape → List Conduct → List Signal → List Signal → List Signal
 island_signals shape on own charges =
     let driven = driven_signals shape on own in
-    chosen_signals driven (settled (switches_of shape on) (charged_signals shape.kinds shape.charge own charges driven))
+    prefer_driven_signals driven (settled (switches_of shape on) (charged_signals shape.kinds shape.charge own charges driven))
 
 -- what becomes of the charges, whose levels are given, by the signals of their nets
 unfoldable pub charges_left : List ℕ → List Signal → List Signal → List Signal

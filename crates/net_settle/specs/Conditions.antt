@@ -6,7 +6,7 @@ use Rattle.level_range.specs.Signal.{Signal, negative_level}
 use Rattle.net_settle.specs.declared.shape.Link.{Link}
 use Rattle.net_settle.specs.declared.shape.Shape.{Shape}
 use Rattle.net_settle.specs.Settling.{AreSettled}
-use Rattle.net_settle.specs.Charges.{level, signal_at, switches_of, charged_signals, chosen_signals}
+use Rattle.net_settle.specs.Charges.{level, signal_at, switches_of, charged_signals, prefer_driven_signals}
 
 -- the ends of each link are among so many nets
 abbrev pub EndsWithin : ℕ → List Link → Type 0
@@ -55,4 +55,4 @@ OthersStay levels before after = (n : ℕ) → slice_index_or levels n 0 ≡ 0 �
 pub record AreCharged (shape : Shape) (on : List Conduct) (own charges driven signals : List Signal) : Type 0 where
   pub second : List Signal
   pub settled : AreSettled (switches_of shape on) (charged_signals shape.kinds shape.charge own charges driven) second
-  pub chosen : signals ≡ chosen_signals driven second
+  pub prefer_driven : signals ≡ prefer_driven_signals driven second

@@ -4,7 +4,7 @@ ghost use Rattle.net_settle.specs.Bounds.{at};
 ghost use Rattle.net_settle.specs.Settling.{AreSettled};
 ghost use Rattle.net_settle.specs.ByLevels.{signals_between};
 ghost use Rattle.net_settle.specs.OneSide.{bounds_on, AreBoundsOn};
-ghost use Rattle.net_settle.specs.Charges.{charged_signals, chosen_signals, charges_left, switches_of, driven_signals, island_signals};
+ghost use Rattle.net_settle.specs.Charges.{charged_signals, prefer_driven_signals, charges_left, switches_of, driven_signals, island_signals};
 ghost use Rattle.net_settle.specs.Conditions.{EndsWithin, IsChargeLevel, AreCharges, OthersStay, AreCharged, CanSettle, IsIsland};
 
 use crate::charge::{charge_left, contribution, excludes_zero};
@@ -80,7 +80,7 @@ fn choose(out: &mut [Range], driven: &[Range], lower: &[Level], upper: &[Level])
     requires upper { length upper.now ≡ length out.old }
     requires in_order { (n : ℕ) → at lower.now n ≤ℤ at upper.now n }
     ensures { out.new
-        ≡ chosen_signals driven.now (signals_between lower.now upper.now (length out.old)) }
+        ≡ prefer_driven_signals driven.now (signals_between lower.now upper.now (length out.old)) }
 {
     for net in 0..out.len() {
         out[net] = if excludes_zero(driven[net]) {

@@ -58,7 +58,7 @@ pub fn opposed(strength: u8, side: Side) -> Level
 }
 
 /// The level behind a switch that conducts.
-fn reduced(level: Level, resistive: bool) -> Level
+fn reduction_of(level: Level, resistive: bool) -> Level
     ensures { result ≡ reduced_level resistive level }
 {
     let value = level.get();
@@ -72,6 +72,6 @@ pub fn carried(level: Level, link: Link, conduct: Conduct, side: Side) -> Level
     match conduct {
         Conduct::Off => Level::zero(0),
         Conduct::Unknown if !is_favoured(level, side) => Level::zero(0),
-        Conduct::On | Conduct::Unknown => reduced(level, link.resistive),
+        Conduct::On | Conduct::Unknown => reduction_of(level, link.resistive),
     }
 }

@@ -1,7 +1,7 @@
 ghost use Rattle.std.specs.Prelude.{◌≡◌, ◌≢◌, ◌<◌, ◌≤◌, ◌-◌, ℕ, suc, pos, length, zip, All, List, ℤ, Contains, MatchBool};
 ghost use Rattle.level_range.specs.Signal.{IsSignal};
 ghost use Rattle.net_settle.specs.Bounds.{Switch, at, bounds_of, carried as carried_of};
-ghost use Rattle.net_settle.specs.ByLevels.{taken};
+ghost use Rattle.net_settle.specs.ByLevels.{take_level};
 ghost use Rattle.net_settle.specs.OneSide.{bounds_on, AreBoundsOn};
 ghost use Rattle.net_settle.specs.Conditions.{EndsWithin};
 ghost use Rattle.net_settle.specs.Progress.{rank, IsDone, OwnRests, LinkRests, LinksRest, Spreads, Moves};
@@ -15,7 +15,7 @@ use level_range::{Conduct, Range};
 /// it was given.
 fn take(bounds: &mut [Level], net: usize, comes: Level, level: Level) -> bool
     requires { net < length bounds.old }
-    ensures bounds { bounds.new ≡ taken level net comes bounds.old }
+    ensures bounds { bounds.new ≡ take_level level net comes bounds.old }
     ensures given { MatchBool result
         ((at bounds.old net ≡ pos 0) × (comes ≡ level))
         (at bounds.old net ≡ pos 0 → comes ≢ level) }

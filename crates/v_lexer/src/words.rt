@@ -16,7 +16,7 @@ const GRAMMAR_WORDS: &[u8] =
 const LEFT_OUT_WORDS: &[u8] =
     b"always automatic begin case casex casez deassign defparam disable edge else end endcase endfunction endgenerate endspecify endtask event for force forever fork function generate genvar if initial integer join localparam negedge parameter posedge real realtime reg release repeat signed specify specparam task time unsigned uwire wait while";
 
-/// The reserved words (IEEE 1364-2005, Annex B), found by hash.
+/// The reserved words of the profile, found by hash.
 #[derive(Drop)]
 pub struct ReservedWords {
     table: NameTable,

@@ -1,6 +1,6 @@
 use Rattle.std.proofs.Common.{rules, ◌≡◌, pos, negsuc, arith, subst, to_z, of_z, w8}
 use Rattle.std.proofs.lemmas.Int.{ints}
-use Rattle.level_range.specs.Combine.{joined}
+use Rattle.level_range.specs.Combine.{join_of}
 use Rattle.level_range.proofs.Combination.{HasSome, lower_of-low, upper_of-high, lower_of-upper_of, two-signals}
 use Rattle.level_range.proofs.combine.join.Goals as goal
 
@@ -23,5 +23,5 @@ pub returns-clause-combination : goal.returns-clause-combination
 returns-clause-combination c =
     let some_a = subst HasSome c.a.view_is c.a.invariant.1 in
     let some_b = subst HasSome c.b.view_is c.b.invariant.1 in
-    let e : c.new.result ≡ joined c.args.kind c.args.a c.args.b = search rules in
+    let e : c.new.result ≡ join_of c.args.kind c.args.a c.args.b = search rules in
     rw e (two-signals c.args.kind c.args.a c.args.b some_a some_b)

@@ -71,7 +71,7 @@ returns-clause-charged c =
       settled =
           alone-charged_settled c.args.shape.now.links c.args.on.now c.args.own.now driven c.index-driven-0.result c.requires.links c.requires.own is
           c.index-driven-0.is first kinds levels c.args.charges.now c.charge_signals.new.out c.index-out-0.result charged one c.index-out-0.is second;
-      chosen = elim c.if-excludes_zero.branch [
+      prefer_driven = elim c.if-excludes_zero.branch [
         | then-excludes_zero w ↦
             chosen-excluded c.args.shape.now.links c.args.on.now c.args.own.now driven c.index-driven-0.result c.requires.links c.requires.own is
             c.index-driven-0.is first kinds levels c.args.charges.now c.charge_signals.new.out c.index-out-0.result charged one c.index-out-0.is second

@@ -2,7 +2,7 @@ use Rattle.std.proofs.Common.{length, arith, ap, sym, ◌∙◌, subst}
 use Rattle.std.specs.Prelude.{zip, List}
 use Rattle.level_range.specs.Signal.{Signal}
 use Rattle.net_settle.specs.ByLevels.{settled}
-use Rattle.net_settle.specs.Charges.{driven_signals, island_signals, charged_signals, chosen_signals, switches_of}
+use Rattle.net_settle.specs.Charges.{driven_signals, island_signals, charged_signals, prefer_driven_signals, switches_of}
 use Rattle.net_settle.specs.Settling.{AreSettled}
 use Rattle.net_settle.proofs.Laws.{settled-are_settled}
 use Rattle.net_settle.proofs.Listed.{settled-between}
@@ -38,9 +38,9 @@ returns-clause-signals c =
     ∙ ap (λ k. charged_signals k c.as_slice-levels.result.now c.args.own.now c.args.charges.now c.drive.new.driven) c.as_slice.ensures
     ∙ ap (λ l. charged_signals kinds l c.args.own.now c.args.charges.now c.drive.new.driven) c.as_slice-levels.ensures in
     c.choose.ensures
-    ∙ ap (chosen_signals c.drive.new.driven) second
-    ∙ ap (λ s. chosen_signals c.drive.new.driven (settled switches s)) charge
-    ∙ ap (λ s. chosen_signals s (settled switches (charged s))) driven
+    ∙ ap (prefer_driven_signals c.drive.new.driven) second
+    ∙ ap (λ s. prefer_driven_signals c.drive.new.driven (settled switches s)) charge
+    ∙ ap (λ s. prefer_driven_signals s (settled switches (charged s))) driven
 
 pub returns-clause-driven_settled : goal.returns-clause-driven_settled
 unfolding driven_signals
@@ -65,5 +65,5 @@ returns-clause-charged c =
       second = settled switches c.charge_signals.new.out;
       settled = subst (λ (own : List Signal). AreSettled switches own (settled switches c.charge_signals.new.out)) charge
           (settled-are_settled switches c.charge_signals.new.out c.settle_both-2.ensures.own);
-      chosen = c.choose.ensures ∙ ap (chosen_signals c.drive.new.driven) second;
+      prefer_driven = c.choose.ensures ∙ ap (prefer_driven_signals c.drive.new.driven) second;
     }
