@@ -1,3 +1,4 @@
+pub mod Filling
 pub mod Mapping
 pub mod Locality
 pub mod Aiming
@@ -8,3 +9,5 @@ pub mod Facts
 pub mod Signals
 pub mod ElementsKept
 pub mod IslandsKept
+pub mod CellsKept
+pub mod Owning

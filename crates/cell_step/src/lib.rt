@@ -2,12 +2,16 @@
 #![tactic(auto)]
 
 mod bench;
+mod changes;
+mod islands;
 mod lists;
+mod nets;
 mod states;
 mod steps;
 mod view;
 
 pub use bench::Bench;
+pub use changes::mature;
 pub use lists::NetStateList;
 pub use states::{CellState, ElementState, IslandState, NetState, PassEnd, Timer};
 pub use steps::Steps;
