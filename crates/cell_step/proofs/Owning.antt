@@ -14,6 +14,7 @@ use Rattle.level_range.proofs.Combination.{combination-law}
 use Rattle.net_settle.specs.Charges.{signal_at}
 use Rattle.flat_net.specs.declared.kinds.NetKind.{NetKind}
 use Rattle.flat_net.specs.declared.kinds.Patch.{Patch}
+use Rattle.flat_net.specs.declared.kinds.Patch.TheVariants.{Whole, NetStuck, InStuck, OutStuck, Open, Closed}
 use Rattle.flat_net.specs.declared.parts.Drive.{Drive}
 use Rattle.flat_net.specs.declared.parts.Island.{Island}
 use Rattle.flat_net.specs.declared.parts.Parts.{Parts}
@@ -169,3 +170,12 @@ module _ (parts : Parts) (r : Readings) (island : Island) (drives : List Drive) 
       ∙ ap (λ l. join_of (combining (part_at parts island turn.place).kind) (signal_at l turn.place) driven) joined
       ∙ ap (λ s. join_of (combining (part_at parts island turn.place).kind)
       (signal_at (driver_signals parts r island (take k island.drives)) turn.place) s) drives_it)
+
+-- a patch that sticks no net
+pub free-of : (patch : Patch) → ((net : ℕ) (v : Bool) → patch ≡ NetStuck net v → ⊥) → (net : ℕ) → net_stuck patch net ≡ None
+free-of (NetStuck stuck v) free net = absurd (free stuck v refl)
+free-of Whole free net = refl
+free-of (InStuck pin v) free net = refl
+free-of (OutStuck pin v) free net = refl
+free-of Open free net = refl
+free-of Closed free net = refl
