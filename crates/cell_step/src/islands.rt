@@ -120,7 +120,7 @@ fn stick_net(own: &mut [Range], nets: &[u32], stuck: u32, value: bool)
 }
 
 /// What the switches of an island conduct.
-fn read_switches<V: View>(on: &mut [Conduct], flat: &Flat, links: &[u32], view: &V)
+pub(crate) fn read_switches<V: View>(on: &mut [Conduct], flat: &Flat, links: &[u32], view: &V)
     requires view { V.View.netlist view.now ≡ flat.now }
     requires links { AreSwitchesOf flat.now.parts links.now }
     requires size { length on.old ≡ length links.now }
@@ -143,7 +143,7 @@ fn read_charges(charges: &mut [Range], nets: &NetStateList)
 }
 
 /// The own signals of an island's nets.
-fn read_own<V: View>(own: &mut [Range], flat: &Flat, island: &Island, patch: Patch, view: &V)
+pub(crate) fn read_own<V: View>(own: &mut [Range], flat: &Flat, island: &Island, patch: Patch, view: &V)
     requires view { V.View.netlist view.now ≡ flat.now }
     requires nets { AreNetsOf flat.now.parts island.now.nets }
     requires kinds { HasKinds flat.now.parts island.now }
@@ -197,7 +197,7 @@ fn step_nets(
 
 /// An island after settling, whose own signals and switches are given. The lists are as long as the
 /// island has nets.
-fn settle_nets(
+pub(crate) fn settle_nets(
     state: &mut IslandState,
     flat: &Flat,
     island: &Island,

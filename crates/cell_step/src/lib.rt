@@ -3,6 +3,7 @@
 
 mod bench;
 mod changes;
+mod island_cells;
 mod islands;
 mod lists;
 mod nets;
@@ -12,6 +13,7 @@ mod view;
 
 pub use bench::Bench;
 pub use changes::mature;
+pub use island_cells::{island_step, start_island};
 pub use lists::NetStateList;
 pub use states::{CellState, ElementState, IslandState, NetState, PassEnd, Timer};
 pub use steps::Steps;
