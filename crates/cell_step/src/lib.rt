@@ -2,7 +2,10 @@
 #![tactic(auto)]
 
 mod bench;
+mod gates;
 mod lists;
+mod pins;
+mod primitives;
 mod states;
 mod steps;
 mod view;

@@ -1,0 +1,3 @@
+pub mod PinLemmas
+pub mod GateLemmas
+pub mod PrimitiveLemmas
