@@ -1,3 +1,4 @@
 pub mod PinLemmas
 pub mod GateLemmas
 pub mod PrimitiveLemmas
+pub mod ElementLemmas

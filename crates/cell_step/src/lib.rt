@@ -2,16 +2,24 @@
 #![tactic(auto)]
 
 mod bench;
+mod copies;
+mod elements;
 mod gates;
 mod lists;
+mod outputs;
 mod pins;
 mod primitives;
+mod starts;
 mod states;
 mod steps;
 mod view;
 
 pub use bench::Bench;
+pub use copies::{copy_state, same_state};
+pub use elements::element_step;
 pub use lists::NetStateList;
+pub use outputs::{conduct_of, drive_of};
+pub use starts::start_element;
 pub use states::{CellState, ElementState, IslandState, NetState, PassEnd, Timer};
 pub use steps::Steps;
 pub use view::View;
