@@ -2,3 +2,4 @@ pub mod PinLemmas
 pub mod GateLemmas
 pub mod PrimitiveLemmas
 pub mod ElementLemmas
+pub mod SameLemmas
