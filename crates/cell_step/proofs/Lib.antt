@@ -3,3 +3,13 @@ pub mod GateLemmas
 pub mod PrimitiveLemmas
 pub mod ElementLemmas
 pub mod SameLemmas
+pub mod Mapping
+pub mod Locality
+pub mod Aiming
+pub mod ElementStillness
+pub mod NetStillness
+pub mod IslandStillness
+pub mod Facts
+pub mod Signals
+pub mod ElementsKept
+pub mod IslandsKept
