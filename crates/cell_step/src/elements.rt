@@ -45,13 +45,7 @@ fn mos_signal(on: Conduct, reduced: Range) -> Range
 }
 
 /// The signal of a MOS switch on what its data and its control read.
-fn mos_target<V: View>(
-    on_one: bool,
-    resistive: bool,
-    e: &Element,
-    patch: Patch,
-    view: &V,
-) -> Range
+fn mos_target<V: View>(on_one: bool, resistive: bool, e: &Element, patch: Patch, view: &V) -> Range
     requires pins { length e.now.ins ≡ 2 }
     requires nets { AreNetsOf (V.netlist view.now).parts e.now.ins }
     ensures { result ≡ mos_signal_of

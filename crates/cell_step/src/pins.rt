@@ -24,7 +24,7 @@ pub(crate) fn stuck_signal(strength: u8, value: bool) -> Range
 }
 
 /// The number of the first input pin: inputs follow the ends and the outputs.
-fn first_input(e: &Element) -> usize
+pub(crate) fn first_input(e: &Element) -> usize
     ensures { result ≡ first_input_of e.now }
 {
     let ends = if e.ends.is_some() { 2 } else { 0 };

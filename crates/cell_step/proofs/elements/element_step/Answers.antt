@@ -41,5 +41,5 @@ pub returns-clause-fits : goal.returns-clause-fits
 returns-clause-fits g c = (
   c.next_element.ensures.seen,
   subst (λ (e : Element). FitsKind c.args.flat.now.parts e.kind c.next_element.new.state)
-  (sym (element_at_is c.args.flat.now.parts c.args.e c.element.result.now c.element.ensures)) c.next_element.ensures.fits,
+      (sym (element_at_is c.args.flat.now.parts c.args.e c.element.result.now c.element.ensures)) c.next_element.ensures.fits,
 )
