@@ -1,4 +1,9 @@
 pub mod Filling
+pub mod PinLemmas
+pub mod GateLemmas
+pub mod PrimitiveLemmas
+pub mod ElementLemmas
+pub mod SameLemmas
 pub mod Mapping
 pub mod Locality
 pub mod Aiming
