@@ -1,0 +1,6 @@
+pub mod Machine
+pub mod Pass
+pub mod Touched
+pub mod Sound
+pub mod System
+pub mod Run

@@ -1,0 +1,31 @@
+-- Time steps of anything that makes passes. The limit of passes is this project's own.
+use Rattle.std.specs.Prelude.{ℕ, zero, suc, ◌-◌, Bool, if◌then◌else◌, List}
+use Rattle.level_range.specs.Signal.{Signal}
+use Rattle.flat_net.specs.Patches.{Netlist}
+use Rattle.machine.specs.Machine.{Machine, begin}
+use Rattle.machine.specs.Pass.{pass, is_machine_due, due_times}
+
+-- what a system does: it makes a pass, and begins a time with inputs in force; and what is known of it: whether something
+-- is due at its time, and the times for which something is pending
+pub record System (M : Type 0) : Type 0 where
+  pub pass : M → M
+  pub begin : ℕ → List Signal → M → M
+  pub is_due : M → Bool
+  pub due_times : M → List ℕ
+
+-- further passes while something is due, up to a number of them
+unfoldable pub further : {M : Type 0} → System M → ℕ → M → M
+further system zero m = m
+further system (suc left) m = if system.is_due m then further system left (system.pass m) else m
+
+-- a time step: a first pass, and further ones while something is due, up to the limit of passes
+unfoldable pub step : {M : Type 0} → System M → ℕ → M → M
+step system limit m = further system (limit - 1) (system.pass m)
+
+-- a time step at a tick, with these inputs in force; it oscillates where something is due after it
+abbrev pub step_at : {M : Type 0} → System M → ℕ → ℕ → List Signal → M → M
+step_at system limit tick inputs m = step system limit (system.begin tick inputs m)
+
+-- the machines of a netlist
+abbrev pub machines : Netlist → System Machine
+machines netlist = record { pass = pass netlist; begin = begin; is_due = is_machine_due; due_times = due_times }
