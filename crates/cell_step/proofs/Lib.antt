@@ -1,0 +1,10 @@
+pub mod Mapping
+pub mod Locality
+pub mod Aiming
+pub mod ElementStillness
+pub mod NetStillness
+pub mod IslandStillness
+pub mod Facts
+pub mod Signals
+pub mod ElementsKept
+pub mod IslandsKept
