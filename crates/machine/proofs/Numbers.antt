@@ -1,5 +1,5 @@
 -- Cells by their numbers, and the states of all cells as a list.
-use Rattle.std.proofs.Common.{◌≡◌, ℕ, zero, suc, ◌+◌, ◌-◌, ◌<◌, ◌≤◌, Bool, true, false, List, [], ◌∷◌, length, get_or, refl, ap, sym, ◌∙◌, inl, inr, arith}
+use Rattle.std.proofs.Common.{◌≡◌, ℕ, zero, suc, ◌+◌, ◌-◌, ◌<◌, ◌≤◌, Bool, true, false, List, [], ◌∷◌, length, get_or, refl, ap, sym, ◌∙◌, subst, inl, inr, arith}
 use Rattle.std.specs.Prelude.{map}
 use Rattle.std.specs.List.{enumerate_from}
 use Rattle.std.proofs.lemmas.List.{get_or-map, get_or_past, length-map}
@@ -8,6 +8,7 @@ use Rattle.std.proofs.lemmas.Bool.{cases_lt, lt-ltb, le-ltb}
 use Rattle.flat_net.specs.declared.kinds.Cell.{Cell}
 use Rattle.flat_net.specs.declared.kinds.Cell.TheVariants.{Element as ElementCell, Island as IslandCell}
 use Rattle.flat_net.specs.declared.parts.Parts.{Parts}
+use Rattle.flat_net.specs.Patches.{IsCell}
 use Rattle.cell_step.specs.declared.states.CellState.{CellState}
 use Rattle.cell_step.specs.declared.states.CellState.TheVariants.{Element, Island}
 use Rattle.machine.specs.Machine.{cell_count, cell_of, number_of, no_island_state, state_among, map_cells}
@@ -22,17 +23,24 @@ cell_of-island parts island =
     let e : length parts.elements + island - length parts.elements ≡ island = omega arith in
     rw (le-ltb (length parts.elements + island) (length parts.elements) (omega arith)) (ap IslandCell e)
 
--- a number is that of an element, or that of an island
-pub data Numbered (parts : Parts) : ℕ → Type 0 where
-  an_element : (element : ℕ) → element < length parts.elements → Numbered parts element
-  an_island : (island : ℕ) → Numbered parts (number_of parts (IslandCell island))
+pub cell_of-past : (parts : Parts) (number : ℕ) → length parts.elements ≤ number → cell_of parts number ≡ IslandCell (number - length parts.elements)
+cell_of-past parts number ge = rw (le-ltb number (length parts.elements) ge) refl
+
+-- below the count of cells a number is that of a cell
+pub cell_of-is : (parts : Parts) (number : ℕ) → number < cell_count parts → IsCell parts (cell_of parts number)
+cell_of-is parts number inside = elim (cases_lt number (length parts.elements)) [
+  | inl lt ↦ subst (IsCell parts) (sym (cell_of-element parts number lt)) lt
+  | inr ge ↦
+      let within : number - length parts.elements < length parts.islands = omega arith in
+      subst (IsCell parts) (sym (cell_of-past parts number ge)) within
+]
 
 pub number_of-cell_of : (parts : Parts) (number : ℕ) → number_of parts (cell_of parts number) ≡ number
 number_of-cell_of parts number = elim (cases_lt number (length parts.elements)) [
   | inl lt ↦ ap (number_of parts) (cell_of-element parts number lt)
   | inr ge ↦
       let e : length parts.elements + (number - length parts.elements) ≡ number = omega arith in
-      rw (le-ltb number (length parts.elements) ge) e
+      ap (number_of parts) (cell_of-past parts number ge) ∙ e
 ]
 
 -- ---- the states of all cells
