@@ -8,3 +8,5 @@ pub mod CellLaws
 pub mod Reading
 pub mod SecondPhase
 pub mod Machines
+pub mod Ticks
+pub mod Runs

@@ -1,5 +1,5 @@
 -- Runs: time steps up to the end, the strobes, and the run of a faulty netlist.
-use Rattle.std.specs.Prelude.{ℕ, zero, suc, ◌+◌, min, nat_eq, nat_lt, nat_le, ◌&&◌, if◌then◌else◌, List, [], ◌∷◌, ◌++◌, filter, map, Option, Some, None}
+use Rattle.std.specs.Prelude.{◌≡◌, ◌⊎◌, ℕ, zero, suc, ◌+◌, ◌<◌, ◌≤◌, min, nat_eq, nat_lt, nat_le, ◌&&◌, true, false, if◌then◌else◌, List, [], ◌∷◌, ◌++◌, length, filter, map, Contains, Option, Some, None, slice_index_or}
 use Rattle.std.specs.Option.{option_map, option_map_or}
 use Rattle.level_range.specs.Signal.{Signal}
 use Rattle.flat_net.specs.declared.kinds.Cell.{Cell}
@@ -39,6 +39,17 @@ least (n ∷ ns) = Some (lesser n (least ns))
 unfoldable pub next_tick : Schedule → ℕ → List ℕ → Option ℕ
 next_tick schedule tick due = least (filter (λ t. nat_lt tick t && nat_le t schedule.end) (schedule.times ++ due))
 
+-- the tick is one of these times, later than the last and no later than the end, and it is the first such
+pub record IsNextTick (schedule : Schedule) (tick : ℕ) (due : List ℕ) (next : ℕ) : Type 0 where
+  pub listed : Contains (schedule.times ++ due) next
+  pub later : tick < next
+  pub ended : next ≤ schedule.end
+  pub first : (time : ℕ) → Contains (schedule.times ++ due) time → tick < time → time ≤ schedule.end → next ≤ time
+
+-- no tick is left up to the end
+abbrev pub IsLastTick : Schedule → ℕ → List ℕ → Type 0
+IsLastTick schedule tick due = (time : ℕ) → Contains (schedule.times ++ due) time → tick < time → schedule.end < time
+
 -- a run that is over, one that oscillates at a tick, and one with a further step before it
 abbrev pub over : {M : Type 0} → Run M
 over = record { ended = []; oscillated = None }
@@ -62,6 +73,24 @@ run_from (suc bound) system limit schedule tick m =
 -- rise, there are at most as many as ticks
 unfoldable pub run : {M : Type 0} → System M → ℕ → Schedule → M → Run M
 run system limit schedule m = run_from (schedule.end + 1) system limit schedule 0 m
+
+-- steps that ended, the first of them at the tick from the machine, and the tick at which the one after them oscillates: each
+-- is the step at its tick from the machine before, leaves nothing due, and is followed by the step at the next tick
+abbrev pub AreSteps : {M : Type 0} → System M → ℕ → Schedule → ℕ → M → List (Ended M) → Option ℕ → Type 0
+AreSteps system limit schedule tick m [] oscillated =
+    (system.is_due (step_at system limit tick (schedule.inputs_at tick) m) ≡ true) × (oscillated ≡ Some tick)
+AreSteps system limit schedule tick m (step ∷ steps) oscillated =
+    (step.tick ≡ tick) × (step.machine ≡ step_at system limit tick (schedule.inputs_at tick) m)
+    × (system.is_due step.machine ≡ false)
+    × ((IsLastTick schedule tick (system.due_times step.machine) × (steps ≡ []) × (oscillated ≡ None))
+    ⊎ ((next : ℕ) × IsNextTick schedule tick (system.due_times step.machine) next
+    × AreSteps system limit schedule next step.machine steps oscillated))
+
+-- the ticks of steps rise
+abbrev pub DoTicksRise : {M : Type 0} → List (Ended M) → Type 0
+DoTicksRise {M = M} steps =
+    (i j : ℕ) (d : Ended M) → i < j → j < length steps
+    → (slice_index_or steps i d).tick < (slice_index_or steps j d).tick
 
 -- the run of a netlist from its start
 abbrev pub netlist_run : Netlist → ℕ → Schedule → Run Machine
