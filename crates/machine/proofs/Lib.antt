@@ -8,5 +8,6 @@ pub mod CellLaws
 pub mod Reading
 pub mod SecondPhase
 pub mod Machines
+pub mod Steps
 pub mod Ticks
 pub mod Runs

@@ -200,3 +200,54 @@ module _ {M : Type 0} (system : System M) (limit : ℕ) (schedule : Schedule) wh
   pub run-steps : (m : M) → AreSteps system limit schedule 0 m (run system limit schedule m).ended (run system limit schedule m).oscillated
   unfolding run
   run-steps m = run_from-steps (schedule.end + 1) 0 m (omega arith) (omega arith)
+
+  -- ---- one run alone
+
+  -- the next tick is one, and after the last there is none
+  next-once : (tick : ℕ) (due : List ℕ) (a b : ℕ) → IsNextTick schedule tick due a → IsNextTick schedule tick due b → a ≡ b
+  next-once tick due a b first second =
+      let le = first.first b second.listed second.later second.ended in
+      let ge = second.first a first.listed first.later first.ended in
+      omega arith
+
+  last-or-next : (tick : ℕ) (due : List ℕ) (next : ℕ) → IsLastTick schedule tick due → IsNextTick schedule tick due next → ⊥
+  last-or-next tick due next last is = absurd (let lt = last next is.listed is.later in let le = is.ended in omega arith)
+
+  -- the steps after a tick are determined
+  abbrev Once : List (Ended M) → Type 0
+  Once xs = (tick : ℕ) (m : M) (ys : List (Ended M)) (p q : Option ℕ) → AreSteps system limit schedule tick m xs p → AreSteps system limit schedule tick m ys q → (xs ≡ ys) × (p ≡ q)
+
+  Rest : ℕ → M → List (Ended M) → Option ℕ → Type 0
+  Rest tick m steps oscillated =
+      (IsLastTick schedule tick (system.due_times m) × (steps ≡ []) × (oscillated ≡ None))
+      ⊎ ((next : ℕ) × IsNextTick schedule tick (system.due_times m) next × AreSteps system limit schedule next m steps oscillated)
+
+  rest-once : (xs ys : List (Ended M)) → Once xs → (tick : ℕ) (m : M) (p q : Option ℕ) → Rest tick m xs p → Rest tick m ys q → (xs ≡ ys) × (p ≡ q)
+  unfolding Rest
+  rest-once xs ys once tick m p q (inl a) (inl b) = (a.1 ∙ sym b.1, a.2 ∙ sym b.2)
+  rest-once xs ys once tick m p q (inl a) (inr b) = absurd (last-or-next tick (system.due_times m) b.0 a.0 b.1)
+  rest-once xs ys once tick m p q (inr a) (inl b) = absurd (last-or-next tick (system.due_times m) a.0 b.0 a.1)
+  rest-once xs ys once tick m p q (inr a) (inr b) =
+      let same = next-once tick (system.due_times m) b.0 a.0 b.1 a.1 in
+      once a.0 m ys p q a.2 (subst (λ (t : ℕ). AreSteps system limit schedule t m ys q) same b.2)
+
+  step-once : (x : Ended M) (xs : List (Ended M)) → Once xs → Once (x ∷ xs)
+  unfolding Rest
+  step-once x xs once tick m [] p q a b =
+      absurd (let e : false ≡ true = sym a.2 ∙ ap system.is_due a.1 ∙ b.0 in cc)
+  step-once x xs once tick m (y ∷ ys) p q a b =
+      let here : x ≡ y = ended-of x y (a.0 ∙ sym b.0) (a.1 ∙ sym b.1) in
+      let other : Rest tick x.machine ys q = subst (λ (n : M). Rest tick n ys q) (b.1 ∙ sym a.1) b.3 in
+      let rest = rest-once xs ys once tick x.machine p q a.3 other in
+      (ap (λ (s : Ended M). s ∷ xs) here ∙ ap (λ (s : List (Ended M)). y ∷ s) rest.0, rest.1)
+    where
+      ended-of : (x y : Ended M) → x.tick ≡ y.tick → x.machine ≡ y.machine → x ≡ y
+      ended-of x y e f =
+          ap (λ (t : ℕ). let s : Ended M = record { tick = t; machine = x.machine } in s) e
+          ∙ ap (λ (n : M). let s : Ended M = record { tick = y.tick; machine = n } in s) f
+
+  pub steps-once : (xs : List (Ended M)) → Once xs
+  steps-once [] tick m [] p q a b = (refl, a.1 ∙ sym b.1)
+  steps-once [] tick m (y ∷ ys) p q a b =
+      absurd (let e : false ≡ true = sym b.2 ∙ ap system.is_due b.1 ∙ a.0 in cc)
+  steps-once (x ∷ xs) tick m ys p q a b = step-once x xs (steps-once xs) tick m ys p q a b

@@ -1,5 +1,5 @@
 -- Time steps of anything that makes passes. The limit of passes is this project's own.
-use Rattle.std.specs.Prelude.{ℕ, zero, suc, ◌-◌, Bool, if◌then◌else◌, List}
+use Rattle.std.specs.Prelude.{◌≡◌, ◌⊎◌, ℕ, zero, suc, ◌-◌, ◌<◌, ◌≤◌, Bool, true, false, if◌then◌else◌, List}
 use Rattle.level_range.specs.Signal.{Signal}
 use Rattle.flat_net.specs.Patches.{Netlist}
 use Rattle.machine.specs.Machine.{Machine, begin}
@@ -25,6 +25,20 @@ step system limit m = further system (limit - 1) (system.pass m)
 -- a time step at a tick, with these inputs in force; it oscillates where something is due after it
 abbrev pub step_at : {M : Type 0} → System M → ℕ → ℕ → List Signal → M → M
 step_at system limit tick inputs m = step system limit (system.begin tick inputs m)
+
+-- so many passes
+unfoldable pub passes : {M : Type 0} → System M → ℕ → M → M
+passes system zero m = m
+passes system (suc count) m = passes system count (system.pass m)
+
+-- a time step by what it is: a first pass and so many further ones, before each of which something is due; after the last
+-- nothing is, or there were as many as may be
+pub record IsStep {M : Type 0} (system : System M) (limit : ℕ) (m after : M) : Type 0 where
+  pub count : ℕ
+  pub most : count ≤ limit - 1
+  pub made : after ≡ passes system count (system.pass m)
+  pub due : (k : ℕ) → k < count → system.is_due (passes system k (system.pass m)) ≡ true
+  pub stops : (system.is_due after ≡ false) ⊎ (count ≡ limit - 1)
 
 -- the machines of a netlist
 abbrev pub machines : Netlist → System Machine
