@@ -22,7 +22,7 @@ use Rattle.flat_net.specs.declared.parts.Parts.{Parts}
 use Rattle.flat_net.specs.Elements.{joins_ends}
 use Rattle.cell_step.specs.declared.states.ElementState.{ElementState}
 use Rattle.cell_step.specs.Readings.{primitive_at}
-use Rattle.cell_step.specs.Elements.{primitive_inputs, primitive_value, remember, remember_of_kind, signal_of_kind, conduct_of_kind, aim_signal, aim_switch, next_element}
+use Rattle.cell_step.specs.Elements.{known, primitive_inputs, primitive_value, remember, remember_of_kind, signal_of_kind, conduct_of_kind, aim_signal, aim_switch, next_element}
 use Rattle.cell_step.proofs.Aiming.{retargeted-again, IsEquality-same_conduct}
 
 same_value-itself : (v : Logic) → same_value v v ≡ true
@@ -68,16 +68,22 @@ module _ (udp : Primitive) (s : ElementState) (ins : List Logic) (due : Option (
       by_test true e = value_by e width
       by_test false e = value_by_level e
 
-  state-of : (a b : ElementState) (v w : Logic) (l m : List Logic) → v ≡ w → l ≡ m →
-      (let x : ElementState = record a { state = v; seen = l } in x) ≡ record a { state = w; seen = m }
-  state-of a b v w l m e f = ap (λ x. record a { state = x; seen = l }) e ∙ ap (λ x. record a { state = w; seen = x }) f
+  remember-is : (x : ElementState) → udp.sequential ≡ true →
+      remember udp ins x ≡ record x { state = primitive_value udp x ins; seen = ins ++ drop (length ins) x.seen }
+  unfolding remember
+  remember-is x e = rw e refl
+
+  same-memory : (x : ElementState) (v : Logic) (seen : List Logic) → v ≡ x.state → seen ≡ x.seen → record x { state = v; seen = seen } ≡ x
+  same-memory x v seen e f = ap (λ w. record x { state = w; seen = seen }) e ∙ ap (λ l. record x { seen = l }) f
 
   remember_by : udp.sequential ≡ true → length ins ≡ udp.inputs → remember udp ins next ≡ next
-  unfolding remember
   remember_by e width =
-      let again = value-again width in
-      let seen = drop_front (length ins) ins (drop (length ins) s.seen) refl in
-      rw e (state-of (record s { due = due }) s _ _ _ _ again (ap (λ l. ins ++ l) seen))
+      let front = drop (length ins) s.seen in
+      let seen : next.seen ≡ ins ++ front = ap (λ (x : ElementState). x.seen) (remember-is s e) in
+      let state : next.state ≡ primitive_value udp s ins = ap (λ (x : ElementState). x.state) (remember-is s e) in
+      remember-is next e
+      ∙ same-memory next _ _ (value-again width ∙ sym state)
+      (ap (λ l. ins ++ drop (length ins) l) seen ∙ ap (λ l. ins ++ l) (drop_front (length ins) ins front refl) ∙ sym seen)
 
   remember_by_level : udp.sequential ≡ false → remember udp ins next ≡ next
   unfolding remember
@@ -111,7 +117,7 @@ module _ (parts : Parts) (s : ElementState) (ins : List Signal) (due : Option (P
       signal_of_kind parts kind s0 s1 patch (left kind) ins ≡ signal_of_kind parts kind s0 s1 patch s ins
   signal-again (Udp number) s0 s1 patch width =
       ap (λ v. span_of v s0 s1)
-      (value-again (primitive_at parts number) s (primitive_inputs ins) due (length-map _ ins ∙ width))
+      (value-again (primitive_at parts number) s (primitive_inputs ins) due (length-map ins (λ v. known (reads v)) ∙ width))
   signal-again (Fold kind) s0 s1 patch width = refl
   signal-again (Enable kind) s0 s1 patch width = refl
   signal-again (Mos on_one resistive) s0 s1 patch width = refl
@@ -122,7 +128,7 @@ module _ (parts : Parts) (s : ElementState) (ins : List Signal) (due : Option (P
   signal-again (Tranif on_one) s0 s1 patch width = refl
 
   memory-again : (kind : ElementKind) → HasWidth parts kind (length ins) → remember_of_kind parts kind ins (left kind) ≡ left kind
-  memory-again (Udp number) width = remember-again (primitive_at parts number) s (primitive_inputs ins) due (length-map _ ins ∙ width)
+  memory-again (Udp number) width = remember-again (primitive_at parts number) s (primitive_inputs ins) due (length-map ins (λ v. known (reads v)) ∙ width)
   memory-again (Fold kind) width = refl
   memory-again (Enable kind) width = refl
   memory-again (Mos on_one resistive) width = refl

@@ -1,5 +1,5 @@
 -- What soundness of a netlist says of one cell.
-use Rattle.std.proofs.Common.{◌≡◌, ◌≢◌, ℕ, zero, suc, ◌<◌, ◌≤◌, List, [], ◌∷◌, length, get_or, refl, ap, sym, ◌∙◌, subst, arith, inl, inr}
+use Rattle.std.proofs.Common.{◌≡◌, ◌≢◌, ℕ, zero, suc, ◌<◌, ◌≤◌, List, [], ◌∷◌, ◌++◌, length, get_or, refl, ap, sym, ◌∙◌, subst, arith, inl, inr}
 use Rattle.std.specs.Prelude.{All, Some, slice_get, slice_index_or}
 use Rattle.std.specs.List.{AllZip}
 use Rattle.std.specs.Option.{IsSomeAnd}
@@ -13,7 +13,7 @@ use Rattle.net_settle.specs.declared.shape.Link.{Link}
 use Rattle.net_settle.specs.Charges.{signal_at}
 use Rattle.net_settle.specs.Conditions.{IsChargeLevel, IsCharge, EndsWithin, WiredAlone, AreCharges}
 use Rattle.net_settle.specs.Conditions.{IsIsland as IsSettlingIsland}
-use Rattle.udp_table.specs.Primitive.{Primitive}
+use Rattle.udp_table.specs.Primitive.{Primitive, IsAccepted}
 use Rattle.flat_net.specs.declared.kinds.ElementKind.{ElementKind}
 use Rattle.flat_net.specs.declared.kinds.ElementKind.TheVariants.{Fold, Enable, Mos, Udp, Copy, Constant, Pull, Tran, Tranif}
 use Rattle.flat_net.specs.declared.kinds.NetKind.{NetKind}
@@ -31,7 +31,7 @@ use Rattle.cell_step.specs.declared.states.NetState.{NetState}
 use Rattle.cell_step.specs.declared.states.IslandState.{IslandState}
 use Rattle.cell_step.specs.Readings.{no_element, no_net, no_island, no_primitive, element_at, net_at, island_at, primitive_at}
 use Rattle.cell_step.specs.Islands.{no_state, state_at, charges_of, part_at}
-use Rattle.cell_step.specs.Fitting.{HasChargeOf, FitsNet, FitsIsland}
+use Rattle.cell_step.specs.Fitting.{HasAcceptedPrimitives, HasChargeOf, FitsNet, FitsIsland}
 use Rattle.cell_step.proofs.Mapping.{zip-length, zip-at}
 use Rattle.cell_step.proofs.ElementStillness.{HasWidth}
 
@@ -58,6 +58,18 @@ charge-of Tri1 level s has fits some = absurd (some has)
 charge-of Supply0 level s has fits some = absurd (some has)
 charge-of Supply1 level s has fits some = absurd (some has)
 
+-- a primitive that is accepted
+abbrev pub HasAccepted : Parts → ElementKind → Type 0
+HasAccepted parts (Udp number) = IsAccepted (primitive_at parts number)
+HasAccepted parts (Fold kind) = Unit {0}
+HasAccepted parts (Enable kind) = Unit {0}
+HasAccepted parts (Mos on_one resistive) = Unit {0}
+HasAccepted parts Copy = Unit {0}
+HasAccepted parts (Constant v) = Unit {0}
+HasAccepted parts (Pull v) = Unit {0}
+HasAccepted parts Tran = Unit {0}
+HasAccepted parts (Tranif on_one) = Unit {0}
+
 -- no links of an island, no links of its shape
 no-links : {A B : Type 0} (xs : List A) (ys : List B) → length xs ≡ length ys → xs ≡ [] → ys ≡ []
 no-links xs [] long e = refl
@@ -71,8 +83,7 @@ module _ (parts : Parts) (sound : IsSound parts) where
   pub ins-within : (number : ℕ) → number < length parts.elements → All (λ net. net < length parts.nets) (element_at parts number).ins
   ins-within number lt =
       let e = element_at parts number in
-      all_right (λ net. net < length parts.nets) e.outs e.ins
-      (all_right (λ net. net < length parts.nets) (end_nets e.ends) _ (element-is number lt).nets)
+      all_right (λ net. net < length parts.nets) (end_nets e.ends ++ e.outs) e.ins (element-is number lt).nets
 
   width-of : (kind : ElementKind) (outs ins : ℕ) → HasPinsOf parts.udps kind outs ins → HasWidth parts kind ins
   width-of (Udp k) outs ins pins =
@@ -92,6 +103,23 @@ module _ (parts : Parts) (sound : IsSound parts) where
       HasWidth parts (element_at parts number).kind (length (element_at parts number).ins)
   primitive-width number lt =
       let e = element_at parts number in width-of e.kind (length e.outs) (length e.ins) (element-is number lt).pins
+
+  accepted-of : (kind : ElementKind) (outs ins : ℕ) → HasAcceptedPrimitives parts → HasPinsOf parts.udps kind outs ins → HasAccepted parts kind
+  accepted-of (Udp k) outs ins all pins =
+      let found = some_of (λ (udp : Primitive). udp.inputs ≡ ins) (slice_get parts.udps k) pins.1 in
+      all k no_primitive (slice_get_within parts.udps k found.0 found.1)
+  accepted-of (Fold kind) outs ins all pins = cc
+  accepted-of (Enable kind) outs ins all pins = cc
+  accepted-of (Mos on_one resistive) outs ins all pins = cc
+  accepted-of Copy outs ins all pins = cc
+  accepted-of (Constant v) outs ins all pins = cc
+  accepted-of (Pull v) outs ins all pins = cc
+  accepted-of Tran outs ins all pins = cc
+  accepted-of (Tranif on_one) outs ins all pins = cc
+
+  pub primitive-accepted : HasAcceptedPrimitives parts → (number : ℕ) → number < length parts.elements → HasAccepted parts (element_at parts number).kind
+  primitive-accepted all number lt =
+      let e = element_at parts number in accepted-of e.kind (length e.outs) (length e.ins) all (element-is number lt).pins
 
   module _ (number : ℕ) (lt : number < length parts.islands) where
     abbrev island : Island
@@ -187,7 +215,7 @@ module _ (parts : Parts) (sound : IsSound parts) where
       net-fits place within = zip-at (λ net state. FitsNet (net_at parts net) state) island.nets s.nets place 0 no_state fits within
 
       pub charges-length : length (charges_of s.nets) ≡ length island.nets
-      charges-length = length-map (λ (n : NetState). n.charge) s.nets ∙ sym states-length
+      charges-length = length-map s.nets (λ (n : NetState). n.charge) ∙ sym states-length
 
       pub charge-at : (place : ℕ) → place < length island.nets → signal_at (charges_of s.nets) place ≡ (state_at s.nets place).charge
       charge-at place within = get_or-map (λ (n : NetState). n.charge) s.nets place no_state undriven (let e = states-length in omega arith)

@@ -51,9 +51,9 @@ pub charges_of-after : (parts : Parts) (island : Island) (now : ℕ) (driven sig
     length charges ≡ length island.nets → charges_of (nets_after parts island now driven signals charges states) ≡ charges
 charges_of-after parts island now driven signals charges states long =
     let once = nets_after parts island now driven signals charges states in
-    same_lists _ _ (length-map (λ (s : NetState). s.charge) once ∙ length-nets_after parts island now driven signals charges states ∙ sym long)
+    same_lists _ _ (length-map once (λ (s : NetState). s.charge) ∙ length-nets_after parts island now driven signals charges states ∙ sym long)
     (λ k d lt.
-    let inside : k < length once = (let e = length-map (λ (s : NetState). s.charge) once in omega arith) in
+    let inside : k < length once = (let e = length-map once (λ (s : NetState). s.charge) in omega arith) in
     let within : k < length island.nets = (let e = length-nets_after parts island now driven signals charges states in omega arith) in
     get_or-map (λ (s : NetState). s.charge) once k no_state d inside
     ∙ ap (λ (s : NetState). s.charge) (nets_after-at parts island now driven signals charges states k no_state within)
@@ -78,7 +78,7 @@ module _ (parts : Parts) (island : Island) (now later : ℕ) (own : List Signal)
   driven = driven_signals island.shape on own
 
   long-left : length left ≡ length island.nets
-  long-left = length-left island.shape.charge charges settled_signals ∙ length-map (λ (n : NetState). n.charge) s.nets ∙ nets
+  long-left = length-left island.shape.charge charges settled_signals ∙ length-map s.nets (λ (n : NetState). n.charge) ∙ nets
 
   -- an island that settles with what is left of its charges
   abbrev settles : List Signal → List NetState → IslandState

@@ -24,14 +24,11 @@ start_timer-again time now later Idle = by_test (nat_eq time 0) refl
 
 next_timer-again : (part : NetPart) (now later : ℕ) (driven : Signal) (timer : Timer) →
     next_timer part later driven (next_timer part now driven timer) ≡ next_timer part now driven timer
-next_timer-again part now later driven timer = by_test (same_signal driven undriven)
+next_timer-again part now later driven timer = by_test (decay_time part.kind (delay_list part.delays)) (same_signal driven undriven)
   where
-    abbrev time : ℕ
-    time = decay_time part.kind (delay_list part.delays)
-
-    by_test : (b : Bool) → cond b (start_timer time later (cond b (start_timer time now timer) Idle)) Idle ≡ cond b (start_timer time now timer) Idle
-    by_test true = start_timer-again time now later timer
-    by_test false = refl
+    by_test : (time : ℕ) (b : Bool) → cond b (start_timer time later (cond b (start_timer time now timer) Idle)) Idle ≡ cond b (start_timer time now timer) Idle
+    by_test time true = start_timer-again time now later timer
+    by_test time false = refl
 
 seen-again : (at_once : Bool) (signal seen : Signal) → cond at_once signal (cond at_once signal seen) ≡ cond at_once signal seen
 seen-again true signal seen = refl

@@ -6,7 +6,7 @@ use Rattle.level_range.specs.declared.range.Logic.TheVariants.{Z}
 use Rattle.level_range.specs.Signal.{Signal, IsSignal, undriven}
 use Rattle.delay_rule.specs.declared.inertia.Pending.{Pending}
 use Rattle.net_settle.specs.Conditions.{IsCharge}
-use Rattle.udp_table.specs.Primitive.{Primitive}
+use Rattle.udp_table.specs.Primitive.{Primitive, IsAccepted}
 use Rattle.flat_net.specs.declared.kinds.Cell.{Cell}
 use Rattle.flat_net.specs.declared.kinds.Cell.TheVariants.{Element as ElementCell, Island as IslandCell}
 use Rattle.flat_net.specs.declared.kinds.ElementKind.{ElementKind}
@@ -42,6 +42,10 @@ FitsKind parts (Tranif on_one) s = Unit {0}
 -- the state fits an element of the netlist
 abbrev pub FitsElement : Parts → ℕ → ElementState → Type 0
 FitsElement parts number s = (length s.seen ≡ 10) × FitsKind parts (element_at parts number).kind s
+
+-- each primitive of the netlist is such as `build` accepts, as the type of primitives keeps it
+abbrev pub HasAcceptedPrimitives : Parts → Type 0
+HasAcceptedPrimitives parts = All IsAccepted parts.udps
 
 -- a trireg has a charge of its level, and any other net the charge z and an idle timer
 abbrev pub HasChargeOf : NetKind → ℕ → NetState → Type 0
