@@ -4,7 +4,7 @@ pub mod Locality
 pub mod Maturing
 pub mod Agreement
 pub mod Stillness
-pub mod CellLaws
+pub mod Cells
 pub mod Reading
 pub mod SecondPhase
 pub mod Machines

@@ -11,7 +11,8 @@ use Rattle.level_range.proofs.Reduction.{undriven-is}
 use Rattle.flat_net.specs.declared.kinds.Cell.{Cell}
 use Rattle.flat_net.specs.declared.kinds.Cell.TheVariants.{Element as ElementCell, Island as IslandCell}
 use Rattle.flat_net.specs.declared.parts.Parts.{Parts}
-use Rattle.flat_net.specs.Patches.{Netlist, IsNetlist, IsCell}
+use Rattle.flat_net.specs.Patches.{Netlist, IsCell}
+use Rattle.flat_net.specs.Soundness.{IsSound}
 use Rattle.cell_step.specs.declared.states.CellState.{CellState}
 use Rattle.cell_step.specs.declared.states.CellState.TheVariants.{Element, Island}
 use Rattle.cell_step.specs.Readings.{Readings}
@@ -24,13 +25,15 @@ use Rattle.machine.specs.Sound.{AreInputs, IsMachine, Rests}
 use Rattle.machine.proofs.Numbers.{cell_of-is}
 use Rattle.machine.proofs.PassAt.{length-mature, length-first_phase, length-pass, mature-at, first_phase-at, pass-at}
 use Rattle.machine.proofs.Locality.{cell_after-local}
-use Rattle.machine.proofs.CellLaws.{AreReadings, AreLawful}
+use Rattle.cell_step.specs.Fitting.{HasAcceptedPrimitives}
+use Rattle.cell_step.proofs.Signals.{AreReadings}
+use Rattle.machine.proofs.Cells.{cell_after-again, cell_after-fits, cell_after-signals, mature_cell-fits, mature_cell-signals, cell_start-fits, cell_start-signals}
 use Rattle.machine.proofs.Reading.{state_among-signals, readings-are}
 use Rattle.machine.proofs.SecondPhase.{reads-kept}
 
 -- ---- the start
 
-module _ (netlist : Netlist) (lawful : AreLawful netlist) where
+module _ (netlist : Netlist) (sound : IsSound netlist.parts) (accepted : HasAcceptedPrimitives netlist.parts) where
   start-length : length (start netlist).cells ≡ cell_count netlist.parts
   unfolding start
   start-length = length-map-range_with_len _ 0 (cell_count netlist.parts)
@@ -52,11 +55,11 @@ module _ (netlist : Netlist) (lawful : AreLawful netlist) where
     count = start-length;
     fits = λ number lt.
         subst (FitsCell netlist.parts (cell_of netlist.parts number)) (sym (start-at number (Island no_island_state) lt))
-        (lawful.start_fits (cell_of netlist.parts number) (cell_of-is netlist.parts number lt));
+        (cell_start-fits netlist sound accepted (cell_of netlist.parts number) (cell_of-is netlist.parts number lt));
     signals = λ number d lt.
         let inside : number < cell_count netlist.parts = (let e = start-length in omega arith) in
         subst HasSignals (sym (start-at number d inside))
-        (lawful.start_signals (cell_of netlist.parts number) (cell_of-is netlist.parts number inside));
+        (cell_start-signals netlist sound (cell_of netlist.parts number) (cell_of-is netlist.parts number inside));
     inputs = no-inputs;
     last_inputs = no-inputs;
     rests = λ passed. absurd (false≢true passed);
@@ -82,7 +85,7 @@ settle-signals : (netlist : Netlist) (cell : Cell) (now : ℕ) (r : Readings) (s
 settle-signals netlist (ElementCell number) now r s before after = before
 settle-signals netlist (IslandCell number) now r s before after = after
 
-module _ (netlist : Netlist) (sound : IsNetlist netlist) (lawful : AreLawful netlist) (m : Machine) (machine : IsMachine netlist m) where
+module _ (netlist : Netlist) (sound : IsSound netlist.parts) (accepted : HasAcceptedPrimitives netlist.parts) (m : Machine) (machine : IsMachine netlist m) where
   abbrev count : ℕ
   count = cell_count netlist.parts
 
@@ -98,17 +101,15 @@ module _ (netlist : Netlist) (sound : IsNetlist netlist) (lawful : AreLawful net
 
   ripe-fits : (number : ℕ) → number < count → FitsCell netlist.parts (cell number) (ripe number)
   ripe-fits number lt =
-      lawful.mature_fits (cell number) (cell_of-is netlist.parts number lt) m.time (cell_state m number) (machine.fits number lt)
+      mature_cell-fits netlist sound (cell number) m.time (cell_state m number) (machine.fits number lt)
 
-  ripe-signals : (number : ℕ) → number < count → HasSignals (ripe number)
-  ripe-signals number lt =
-      lawful.mature_signals (cell number) (cell_of-is netlist.parts number lt) m.time (cell_state m number) (machine.fits number lt) (signals-at number)
+  ripe-signals : (number : ℕ) → HasSignals (ripe number)
+  ripe-signals number = mature_cell-signals m.time (cell_state m number) (signals-at number)
 
   mature-signals : All HasSignals (mature m).cells
   mature-signals =
       All-from_get_or HasSignals (mature m).cells (Island no_island_state)
-      (λ number lt. subst HasSignals (sym (mature-at m number))
-      (ripe-signals number (let e = length-mature m in let f = machine.count in omega arith)))
+      (λ number lt. subst HasSignals (sym (mature-at m number)) (ripe-signals number))
 
   mature-readings : AreReadings (readings netlist m.inputs (mature m).cells)
   mature-readings = readings-are netlist m.inputs (mature m).cells machine.inputs.signals mature-signals
@@ -121,8 +122,8 @@ module _ (netlist : Netlist) (sound : IsNetlist netlist) (lawful : AreLawful net
       let within : number < count = (let f = machine.count in omega arith) in
       let r : Readings = readings netlist m.inputs (mature m).cells in
       subst HasSignals (sym (first_phase-at netlist m number inside))
-      (settle-signals netlist (cell number) m.time r (ripe number) (ripe-signals number within)
-      (lawful.after_signals (cell number) (cell_of-is netlist.parts number within) m.time r (ripe number) mature-readings (ripe-fits number within) (ripe-signals number within))))
+      (settle-signals netlist (cell number) m.time r (ripe number) (ripe-signals number)
+      (cell_after-signals netlist sound (cell number) (cell_of-is netlist.parts number within) m.time r (ripe number) mature-readings (ripe-fits number within) (ripe-signals number))))
 
   -- all that cells read in the pass are signals
   next-readings : (c : Cell) → AreReadings (next_readings netlist m c)
@@ -137,8 +138,8 @@ module _ (netlist : Netlist) (sound : IsNetlist netlist) (lawful : AreLawful net
   pass-fits : (number : ℕ) → number < count → FitsCell netlist.parts (cell number) (cell_state (pass netlist m) number)
   pass-fits number lt =
       subst (FitsCell netlist.parts (cell number)) (sym (pass-cell number lt))
-      (lawful.after_fits (cell number) (cell_of-is netlist.parts number lt) m.time (next_readings netlist m (cell number)) (ripe number)
-      (next-readings (cell number)) (ripe-fits number lt) (ripe-signals number lt))
+      (cell_after-fits netlist sound accepted (cell number) (cell_of-is netlist.parts number lt) m.time (next_readings netlist m (cell number)) (ripe number)
+      (next-readings (cell number)) (ripe-fits number lt))
 
   pass-signals : All HasSignals (pass netlist m).cells
   pass-signals =
@@ -146,8 +147,8 @@ module _ (netlist : Netlist) (sound : IsNetlist netlist) (lawful : AreLawful net
       (λ number lt.
       let within : number < count = (let e = length-pass netlist m in let f = machine.count in omega arith) in
       subst HasSignals (sym (pass-cell number within))
-      (lawful.after_signals (cell number) (cell_of-is netlist.parts number within) m.time (next_readings netlist m (cell number)) (ripe number)
-      (next-readings (cell number)) (ripe-fits number within) (ripe-signals number within)))
+      (cell_after-signals netlist sound (cell number) (cell_of-is netlist.parts number within) m.time (next_readings netlist m (cell number)) (ripe number)
+      (next-readings (cell number)) (ripe-fits number within) (ripe-signals number)))
 
   pass-rests : (number : ℕ) → number < count → Rests netlist (pass netlist m) number
   pass-rests number lt later =
@@ -155,9 +156,9 @@ module _ (netlist : Netlist) (sound : IsNetlist netlist) (lawful : AreLawful net
       let e = pass-cell number lt in
       let long : length netlist.parts.elements ≤ length m.cells = (let f = machine.count in omega arith) in
       cell_after-local netlist (cell number) later (last_readings netlist (pass netlist m)) r (cell_state (pass netlist m) number)
-      (reads-kept netlist m sound.sound long (cell number))
+      (reads-kept netlist m sound long (cell number))
       ∙ ap (cell_after netlist (cell number) later r) e
-      ∙ lawful.again (cell number) (cell_of-is netlist.parts number lt) m.time later r (ripe number) (next-readings (cell number)) (ripe-fits number lt) (ripe-signals number lt)
+      ∙ cell_after-again netlist sound (cell number) (cell_of-is netlist.parts number lt) m.time later r (ripe number) (next-readings (cell number)) (ripe-fits number lt)
       ∙ sym e
 
   pub pass-is_machine : IsMachine netlist (pass netlist m)

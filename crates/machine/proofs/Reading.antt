@@ -31,7 +31,7 @@ use Rattle.cell_step.specs.Elements.{stuck_signal, drive_at}
 use Rattle.cell_step.specs.Islands.{no_state, state_at}
 use Rattle.cell_step.specs.Fitting.{HasSignals, HasElementSignals, HasIslandSignals, HasNetSignals}
 use Rattle.machine.specs.Machine.{Machine, as_element, as_island, state_among, no_island_state, net_state, number_of, input_among, readings}
-use Rattle.machine.proofs.CellLaws.{AreReadings}
+use Rattle.cell_step.proofs.Signals.{AreReadings, drive_at-is}
 
 -- ---- signals
 
@@ -74,14 +74,11 @@ input_among-signal (input ∷ inputs) (signal ∷ signals) h net =
     by_test true here later = here
     by_test false here later = later
 
-drive-signal : (patch : Patch) (pin : ℕ) (s : ElementState) → IsSignal s.out → IsSignal (drive_at patch pin s)
-drive-signal patch pin s h = ?
-
 pub readings-are : (netlist : Netlist) (inputs : List Signal) (cells : List CellState) → All IsSignal inputs → All HasSignals cells →
     AreReadings (readings netlist inputs cells)
 readings-are netlist inputs cells signals states = record {
   drive = λ element pin.
-      drive-signal _ pin (as_element (state_among cells element))
+      drive_at-is _ pin (as_element (state_among cells element))
       (as_element-signals (state_among cells element) (state_among-signals cells states element)).out;
   seen = λ net. (net_state-signals netlist.parts cells states net).seen;
   input = λ net. input_among-signal netlist.parts.inputs inputs signals net;

@@ -23,8 +23,9 @@ use Rattle.cell_step.specs.declared.states.CellState.{CellState}
 use Rattle.cell_step.specs.declared.states.CellState.TheVariants.{Element, Island}
 use Rattle.cell_step.specs.Readings.{Readings, element_at, primitive_at, net_at, island_at}
 use Rattle.cell_step.specs.Changes.{mature_cell}
-use Rattle.cell_step.specs.Elements.{stuck_signal, conduction, primitive_value, signal_of_kind, conduct_of_kind, aim_signal, aim_switch, remember, remember_of_kind, next_element, element_after, primitive_inputs, drive_at, conduct_at}
+use Rattle.cell_step.specs.Elements.{stuck_signal, conduction, input_signals, next_element, element_after, drive_at, conduct_at}
 use Rattle.cell_step.specs.Islands.{state_at}
+use Rattle.cell_step.proofs.ElementsKept.{next-out, next-on}
 use Rattle.machine.specs.Machine.{Machine, cell_of, number_of, cell_state, state_among, no_island_state, as_element, as_island, net_state, readings}
 use Rattle.machine.specs.Pass.{evaluate_cell, cell_after, mature, evaluate, first_phase, pass, next_readings, next_cell}
 use Rattle.machine.specs.Touched.{AgreeAt, last_readings}
@@ -73,40 +74,13 @@ drive_at-alike (InStuck input v) pin a b alike = alike.out
 pub conduct_at-alike : (patch : Patch) (a b : ElementState) → DriveAlike a b → conduct_at patch a ≡ conduct_at patch b
 conduct_at-alike patch a b alike = ap (conduction patch) alike.on
 
-remember-alike : (udp : Primitive) (ins : List Logic) (s : ElementState) → DriveAlike (remember udp ins s) s
-unfolding remember
-remember-alike udp ins s = by_test udp.sequential
-  where
-    by_test : (b : Bool) → DriveAlike (cond b (record s { state = primitive_value udp s ins; seen = ins ++ drop (length ins) s.seen }) s) s
-    by_test true = record { out = refl; on = refl }
-    by_test false = record { out = refl; on = refl }
-
-memory-alike : (parts : Parts) (kind : ElementKind) (ins : List Signal) (s : ElementState) → DriveAlike (remember_of_kind parts kind ins s) s
-memory-alike parts (Udp number) ins s = remember-alike (primitive_at parts number) (primitive_inputs ins) s
-memory-alike parts (Fold kind) ins s = record { out = refl; on = refl }
-memory-alike parts (Enable kind) ins s = record { out = refl; on = refl }
-memory-alike parts (Mos on_one resistive) ins s = record { out = refl; on = refl }
-memory-alike parts Copy ins s = record { out = refl; on = refl }
-memory-alike parts (Constant v) ins s = record { out = refl; on = refl }
-memory-alike parts (Pull v) ins s = record { out = refl; on = refl }
-memory-alike parts Tran ins s = record { out = refl; on = refl }
-memory-alike parts (Tranif on_one) ins s = record { out = refl; on = refl }
-
-next_element-alike : (parts : Parts) (e : ElementPart) (patch : Patch) (now : ℕ) (ins : List Signal) (s : ElementState) →
-    DriveAlike (next_element parts e patch now ins s) s
-unfolding next_element
-next_element-alike parts e patch now ins s = by_test (joins_ends e.kind)
-  where
-    by_test : (b : Bool) →
-        DriveAlike (cond b (aim_switch e now (conduct_of_kind e.kind patch ins) s)
-        (aim_signal e now (signal_of_kind parts e.kind e.s0 e.s1 patch s ins) (remember_of_kind parts e.kind ins s))) s
-    by_test true = record { out = refl; on = refl }
-    by_test false = record { out = (memory-alike parts e.kind ins s).out; on = (memory-alike parts e.kind ins s).on }
-
 -- an element's part in a pass leaves what it drives and conducts
 pub element_after-alike : (parts : Parts) (number : ℕ) (patch : Patch) (now : ℕ) (r : Readings) (s : ElementState) →
     DriveAlike (element_after parts number patch now r s) s
-element_after-alike parts number patch now r s = next_element-alike parts (element_at parts number) patch now _ s
+element_after-alike parts number patch now r s =
+    let e = element_at parts number in
+    let ins = input_signals r patch e in
+    record { out = next-out parts e patch now ins s; on = next-on parts e patch now ins s }
 
 -- after a pass an element drives and conducts what it does once what is due has taken effect
 pub pass-alike : (netlist : Netlist) (m : Machine) (element : ℕ) → element < length netlist.parts.elements → element < length m.cells →
