@@ -1,16 +1,14 @@
 -- Whether two readings agree at a cell is decided by tests, so where they don't fail to agree they agree.
-use Rattle.std.proofs.Common.{◌≡◌, ℕ, ◌<◌, Bool, true, false, List, length, refl, ap, sym, ◌∙◌}
-use Rattle.std.specs.Prelude.{All, Option, Some, None}
+use Rattle.std.proofs.Common.{◌≡◌, Bool, true, false, List, refl, sym, ◌∙◌}
+use Rattle.std.specs.Prelude.{All}
 use Rattle.std.proofs.lemmas.Bool.{true_from_ne_false}
 use Rattle.delay_rule.specs.Inertia.{same_signal, same_conduct}
 use Rattle.delay_rule.proofs.InertiaLemmas.{IsEquality, IsEquality-same_signal}
-use Rattle.level_range.specs.Signal.{Signal}
-use Rattle.level_range.specs.declared.range.Conduct.{Conduct}
 use Rattle.flat_net.specs.declared.kinds.Cell.{Cell}
 use Rattle.flat_net.specs.declared.kinds.Cell.TheVariants.{Element as ElementCell, Island as IslandCell}
 use Rattle.flat_net.specs.declared.parts.Drive.{Drive}
 use Rattle.flat_net.specs.declared.parts.Parts.{Parts}
-use Rattle.cell_step.specs.Readings.{Readings, AgreeAtElement, AgreeAtIsland, element_at, island_at}
+use Rattle.cell_step.specs.Readings.{Readings, AgreeAtIsland, element_at, island_at}
 use Rattle.cell_step.proofs.Aiming.{IsEquality-same_conduct}
 use Rattle.machine.specs.Touched.{AgreeAt}
 

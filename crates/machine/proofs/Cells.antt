@@ -1,5 +1,5 @@
 -- What a cell's part in a pass, its start and what is due of it keep, in a sound netlist whose primitives are accepted.
-use Rattle.std.proofs.Common.{◌≡◌, ℕ, refl, ap}
+use Rattle.std.proofs.Common.{◌≡◌, ℕ, ap}
 use Rattle.flat_net.specs.declared.kinds.Cell.{Cell}
 use Rattle.flat_net.specs.declared.kinds.Cell.TheVariants.{Element as ElementCell, Island as IslandCell}
 use Rattle.flat_net.specs.Patches.{Netlist, IsCell, patch_of}

@@ -1,29 +1,27 @@
 -- The start of a sound netlist is a machine of it; to begin a time and to make a pass leave it one.
-use Rattle.std.proofs.Common.{◌≡◌, ℕ, ◌+◌, ◌-◌, ◌<◌, ◌≤◌, Bool, true, false, List, length, get_or, replicate, refl, ap, sym, ◌∙◌, subst, inl, inr, arith}
-use Rattle.std.specs.Prelude.{All, map}
-use Rattle.std.specs.List.{range_with_len}
-use Rattle.std.proofs.lemmas.Bool.{cases_lt, false≢true}
-use Rattle.std.proofs.lemmas.List.{get_or-map, get_or_default, length-replicate}
+use Rattle.std.proofs.Common.{◌≡◌, ℕ, ◌<◌, ◌≤◌, List, length, get_or, replicate, ap, sym, ◌∙◌, subst, arith}
+use Rattle.std.specs.Prelude.{All}
+use Rattle.std.proofs.lemmas.Bool.{false≢true}
+use Rattle.std.proofs.lemmas.List.{length-replicate}
 use Rattle.std.proofs.lemmas.List.Elements.{All-replicate, All-from_get_or}
 use Rattle.std.proofs.lemmas.List.FromFn.{length-map-range_with_len, get_or-map-range_with_len}
 use Rattle.level_range.specs.Signal.{Signal, IsSignal, undriven}
 use Rattle.level_range.proofs.Reduction.{undriven-is}
 use Rattle.flat_net.specs.declared.kinds.Cell.{Cell}
 use Rattle.flat_net.specs.declared.kinds.Cell.TheVariants.{Element as ElementCell, Island as IslandCell}
-use Rattle.flat_net.specs.declared.parts.Parts.{Parts}
-use Rattle.flat_net.specs.Patches.{Netlist, IsCell}
+use Rattle.flat_net.specs.Patches.{Netlist}
 use Rattle.flat_net.specs.Soundness.{IsSound}
 use Rattle.cell_step.specs.declared.states.CellState.{CellState}
-use Rattle.cell_step.specs.declared.states.CellState.TheVariants.{Element, Island}
+use Rattle.cell_step.specs.declared.states.CellState.TheVariants.{Island}
 use Rattle.cell_step.specs.Readings.{Readings}
 use Rattle.cell_step.specs.Changes.{mature_cell}
 use Rattle.cell_step.specs.Fitting.{FitsCell, HasSignals}
-use Rattle.machine.specs.Machine.{Machine, cell_count, cell_of, number_of, cell_state, state_among, no_island_state, cell_start, start, begin, readings}
+use Rattle.machine.specs.Machine.{Machine, cell_count, cell_of, cell_state, no_island_state, cell_start, start, begin, readings}
 use Rattle.machine.specs.Pass.{cell_after, settle_cell, mature, settle, evaluate, first_phase, pass, next_readings, next_cell}
-use Rattle.machine.specs.Touched.{AgreeAt, last_readings}
+use Rattle.machine.specs.Touched.{last_readings}
 use Rattle.machine.specs.Sound.{AreInputs, IsMachine, Rests}
 use Rattle.machine.proofs.Numbers.{cell_of-is}
-use Rattle.machine.proofs.PassAt.{length-mature, length-first_phase, length-pass, mature-at, first_phase-at, pass-at}
+use Rattle.machine.proofs.PassAt.{length-first_phase, length-pass, mature-at, first_phase-at, pass-at}
 use Rattle.machine.proofs.Locality.{cell_after-local}
 use Rattle.cell_step.specs.Fitting.{HasAcceptedPrimitives}
 use Rattle.cell_step.proofs.Signals.{AreReadings}

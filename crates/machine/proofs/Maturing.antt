@@ -1,9 +1,9 @@
 -- Where nothing is due, nothing takes effect.
-use Rattle.std.proofs.Common.{◌≡◌, ◌≢◌, ℕ, ◌<◌, ◌≤◌, Bool, true, false, cond, List, [], ◌∷◌, ◌++◌, length, get_or, refl, ap, sym, ◌∙◌, inl, inr, arith}
+use Rattle.std.proofs.Common.{◌≡◌, ℕ, Bool, true, false, List, [], ◌∷◌, refl, ap, ◌∙◌}
 use Rattle.std.specs.Prelude.{Option, Some, None, map, nat_le, ◌||◌}
 use Rattle.std.specs.List.{list_any, flat_map}
-use Rattle.std.proofs.lemmas.Bool.{or_parts, true≢false, cases_Bool}
-use Rattle.std.proofs.lemmas.List.Folds.{list_any_at, list_any-append}
+use Rattle.std.proofs.lemmas.Bool.{or_parts}
+use Rattle.std.proofs.lemmas.List.Folds.{list_any-append}
 use Rattle.delay_rule.specs.declared.inertia.Pending.{Pending}
 use Rattle.level_range.specs.Signal.{Signal}
 use Rattle.level_range.specs.declared.range.Logic.{Logic}
@@ -15,8 +15,8 @@ use Rattle.cell_step.specs.declared.states.ElementState.{ElementState}
 use Rattle.cell_step.specs.declared.states.IslandState.{IslandState}
 use Rattle.cell_step.specs.declared.states.CellState.{CellState}
 use Rattle.cell_step.specs.declared.states.CellState.TheVariants.{Element, Island}
-use Rattle.cell_step.specs.Changes.{is_due, mature_value, mature_due, is_timer_due, mature_element, mature_net, mature_island, mature_cell}
-use Rattle.machine.specs.Machine.{Machine, cell_state, no_island_state}
+use Rattle.cell_step.specs.Changes.{is_due, mature_value, mature_due, is_timer_due, mature_element, mature_net, mature_cell}
+use Rattle.machine.specs.Machine.{Machine}
 use Rattle.machine.specs.Pass.{is_net_due, is_cell_due, is_machine_due, change_times, timer_times, net_times, cell_times, due_times, mature}
 
 value-still : {V : Type 0} (now : ℕ) (present : V) (due : Option (Pending V)) → is_due now due ≡ false → mature_value now present due ≡ present

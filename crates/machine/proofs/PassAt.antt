@@ -1,15 +1,14 @@
 -- The cells of a machine in the phases of a pass.
-use Rattle.std.proofs.Common.{◌≡◌, ℕ, ◌<◌, List, length, get_or, refl, ap, sym, ◌∙◌, inl, inr, arith}
+use Rattle.std.proofs.Common.{◌≡◌, ℕ, ◌<◌, length, refl, ap, sym, ◌∙◌, inl, inr, arith}
 use Rattle.std.specs.Prelude.{map}
 use Rattle.std.proofs.lemmas.List.{get_or-map, get_or_past, length-map}
 use Rattle.std.proofs.lemmas.Bool.{cases_lt}
 use Rattle.flat_net.specs.declared.kinds.Cell.{Cell}
 use Rattle.flat_net.specs.declared.kinds.Cell.TheVariants.{Element as ElementCell, Island as IslandCell}
 use Rattle.flat_net.specs.Patches.{Netlist}
-use Rattle.cell_step.specs.declared.states.CellState.{CellState}
-use Rattle.cell_step.specs.declared.states.CellState.TheVariants.{Element, Island}
+use Rattle.cell_step.specs.declared.states.CellState.TheVariants.{Island}
 use Rattle.cell_step.specs.Changes.{mature_cell}
-use Rattle.machine.specs.Machine.{Machine, cell_of, cell_state, state_among, no_island_state, readings}
+use Rattle.machine.specs.Machine.{Machine, cell_of, cell_state, no_island_state, readings}
 use Rattle.machine.specs.Pass.{settle_cell, evaluate_cell, mature, settle, evaluate, first_phase, pass, cell_after, next_readings, next_cell}
 use Rattle.machine.proofs.Numbers.{length-map_cells, map_cells-at}
 

@@ -1,36 +1,28 @@
 -- What cells read of a machine are signals, and which cells they read.
-use Rattle.std.proofs.Common.{◌≡◌, ℕ, ◌+◌, ◌<◌, ◌≤◌, Bool, true, false, cond, List, [], ◌∷◌, length, get_or, refl, ap, sym, ◌∙◌, subst, inl, inr, arith}
-use Rattle.std.specs.Prelude.{All, Some, None, nat_eq, slice_get}
+use Rattle.std.proofs.Common.{ℕ, ◌<◌, Bool, true, false, cond, List, [], ◌∷◌, length, sym, subst, inl, inr}
+use Rattle.std.specs.Prelude.{All, nat_eq}
 use Rattle.std.specs.List.{AllZip}
 use Rattle.std.proofs.lemmas.Bool.{cases_lt}
 use Rattle.std.proofs.lemmas.List.{get_or_past}
 use Rattle.std.proofs.lemmas.List.Elements.{All-nil, All-cons, All-head, All-tail}
 use Rattle.std.proofs.lemmas.Option.{slice_get_within, slice_get-get_or}
-use Rattle.level_range.specs.Signal.{Signal, IsSignal, undriven}
-use Rattle.level_range.specs.declared.range.Conduct.{Conduct}
+use Rattle.level_range.specs.Signal.{Signal, IsSignal}
 use Rattle.level_range.proofs.Reduction.{undriven-is}
-use Rattle.flat_net.specs.declared.kinds.Cell.{Cell}
-use Rattle.flat_net.specs.declared.kinds.Cell.TheVariants.{Element as ElementCell, Island as IslandCell}
-use Rattle.flat_net.specs.declared.kinds.Patch.{Patch}
-use Rattle.flat_net.specs.declared.kinds.Patch.TheVariants.{Whole, NetStuck, InStuck, OutStuck, Open, Closed}
+use Rattle.flat_net.specs.declared.kinds.Cell.TheVariants.{Island as IslandCell}
 use Rattle.flat_net.specs.declared.parts.Drive.{Drive}
 use Rattle.flat_net.specs.declared.parts.Island.{Island}
-use Rattle.flat_net.specs.declared.parts.Element.{Element as ElementPart}
 use Rattle.flat_net.specs.declared.parts.Parts.{Parts}
 use Rattle.flat_net.specs.Patches.{Netlist}
-use Rattle.flat_net.specs.Islands.{IsDrive, IsLink}
+use Rattle.flat_net.specs.Islands.{IsLink}
 use Rattle.flat_net.specs.Soundness.{IsSound}
 use Rattle.flat_net.proofs.Somes.{some_of}
-use Rattle.net_settle.specs.declared.shape.Link.{Link}
 use Rattle.cell_step.specs.declared.states.NetState.{NetState}
-use Rattle.cell_step.specs.declared.states.ElementState.{ElementState}
 use Rattle.cell_step.specs.declared.states.CellState.{CellState}
 use Rattle.cell_step.specs.declared.states.CellState.TheVariants.{Element, Island as IslandStates}
-use Rattle.cell_step.specs.Readings.{Readings, no_island, island_at, net_at}
-use Rattle.cell_step.specs.Elements.{stuck_signal, drive_at}
+use Rattle.cell_step.specs.Readings.{no_island, island_at, net_at}
 use Rattle.cell_step.specs.Islands.{no_state, state_at}
 use Rattle.cell_step.specs.Fitting.{HasSignals, HasElementSignals, HasIslandSignals, HasNetSignals}
-use Rattle.machine.specs.Machine.{Machine, as_element, as_island, state_among, no_island_state, net_state, number_of, input_among, readings}
+use Rattle.machine.specs.Machine.{as_element, as_island, state_among, no_island_state, net_state, number_of, input_among, readings}
 use Rattle.cell_step.proofs.Signals.{AreReadings, drive_at-is}
 
 -- ---- signals

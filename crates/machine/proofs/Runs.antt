@@ -1,8 +1,8 @@
 -- Runs: a step that ended leaves nothing due, ticks rise up to the end, and the bound of a run suffices.
-use Rattle.std.proofs.Common.{◌≡◌, ◌⊎◌, ℕ, zero, suc, ◌+◌, ◌<◌, ◌≤◌, Bool, true, false, cond, List, [], ◌∷◌, ◌++◌, length, get_or, Option, Some, None, refl, ap, sym, ◌∙◌, subst, inl, inr, arith}
+use Rattle.std.proofs.Common.{◌≡◌, ◌⊎◌, ℕ, zero, suc, ◌+◌, ◌<◌, ◌≤◌, Bool, true, false, cond, List, [], ◌∷◌, Option, Some, None, refl, ap, sym, ◌∙◌, subst, inl, inr, arith}
 use Rattle.std.specs.Prelude.{All}
 use Rattle.std.specs.Option.{option_map_or, IfSome}
-use Rattle.std.proofs.lemmas.List.Elements.{All-nil, All-cons, All-weaker}
+use Rattle.std.proofs.lemmas.List.Elements.{All-nil, All-cons}
 use Rattle.machine.specs.System.{System, step_at}
 use Rattle.machine.specs.Run.{Schedule, Ended, Run, next_tick, IsNextTick, IsLastTick, over, oscillating, then_run, run_from, run, AreSteps, DoTicksRise}
 use Rattle.machine.proofs.Ticks.{next_tick-is, next_tick-none}

@@ -1,32 +1,25 @@
 -- The second phase of a pass changes nothing that cells read: no island, and of no element what it drives and conducts.
-use Rattle.std.proofs.Common.{◌≡◌, ℕ, ◌+◌, ◌<◌, ◌≤◌, Bool, true, false, cond, List, ◌++◌, length, drop, get_or, refl, ap, sym, ◌∙◌, inl, inr, arith}
-use Rattle.std.specs.Prelude.{All, nat_eq}
+use Rattle.std.proofs.Common.{◌≡◌, ℕ, ◌<◌, ◌≤◌, cond, length, refl, ap, sym, ◌∙◌, inl, inr, arith}
+use Rattle.std.specs.Prelude.{nat_eq}
 use Rattle.std.proofs.lemmas.Bool.{cases_lt}
 use Rattle.std.proofs.lemmas.List.{get_or_past}
 use Rattle.level_range.specs.Signal.{Signal}
-use Rattle.level_range.specs.declared.range.Logic.{Logic}
-use Rattle.udp_table.specs.Primitive.{Primitive}
 use Rattle.flat_net.specs.declared.kinds.Cell.{Cell}
 use Rattle.flat_net.specs.declared.kinds.Cell.TheVariants.{Element as ElementCell, Island as IslandCell}
 use Rattle.flat_net.specs.declared.kinds.Patch.{Patch}
 use Rattle.flat_net.specs.declared.kinds.Patch.TheVariants.{Whole, NetStuck, InStuck, OutStuck, Open, Closed}
-use Rattle.flat_net.specs.declared.kinds.ElementKind.{ElementKind}
-use Rattle.flat_net.specs.declared.kinds.ElementKind.TheVariants.{Fold, Enable, Mos, Udp, Copy, Constant, Pull, Tran, Tranif}
-use Rattle.flat_net.specs.declared.parts.Element.{Element as ElementPart}
-use Rattle.flat_net.specs.declared.parts.Drive.{Drive}
 use Rattle.flat_net.specs.declared.parts.Parts.{Parts}
-use Rattle.flat_net.specs.Elements.{joins_ends}
 use Rattle.flat_net.specs.Soundness.{IsSound}
 use Rattle.flat_net.specs.Patches.{Netlist, patch_of}
 use Rattle.cell_step.specs.declared.states.ElementState.{ElementState}
 use Rattle.cell_step.specs.declared.states.CellState.{CellState}
-use Rattle.cell_step.specs.declared.states.CellState.TheVariants.{Element, Island}
-use Rattle.cell_step.specs.Readings.{Readings, element_at, primitive_at, net_at, island_at}
+use Rattle.cell_step.specs.declared.states.CellState.TheVariants.{Island}
+use Rattle.cell_step.specs.Readings.{Readings, element_at, net_at}
 use Rattle.cell_step.specs.Changes.{mature_cell}
-use Rattle.cell_step.specs.Elements.{stuck_signal, conduction, input_signals, next_element, element_after, drive_at, conduct_at}
+use Rattle.cell_step.specs.Elements.{stuck_signal, conduction, input_signals, element_after, drive_at, conduct_at}
 use Rattle.cell_step.specs.Islands.{state_at}
 use Rattle.cell_step.proofs.ElementsKept.{next-out, next-on}
-use Rattle.machine.specs.Machine.{Machine, cell_of, number_of, cell_state, state_among, no_island_state, as_element, as_island, net_state, readings}
+use Rattle.machine.specs.Machine.{Machine, number_of, cell_state, no_island_state, as_element, as_island, net_state, readings}
 use Rattle.machine.specs.Pass.{evaluate_cell, cell_after, mature, evaluate, first_phase, pass, next_readings, next_cell}
 use Rattle.machine.specs.Touched.{AgreeAt, last_readings}
 use Rattle.machine.proofs.Numbers.{cell_of-element, cell_of-island}

@@ -1,6 +1,6 @@
 -- Stillness: a cell that a pass doesn't touch keeps its state, and a machine in which nothing is due and whose inputs are
 -- those of its last pass keeps all its cells.
-use Rattle.std.proofs.Common.{◌≡◌, ◌≢◌, ◌⊎◌, ℕ, ◌<◌, Bool, true, false, List, length, get_or, refl, ap, sym, ◌∙◌, inl, inr, arith}
+use Rattle.std.proofs.Common.{◌≡◌, ℕ, ◌<◌, true, false, List, length, refl, ap, sym, ◌∙◌, inl, inr, arith}
 use Rattle.std.proofs.lemmas.Bool.{true_from_ne_false, false_from_ne_true}
 use Rattle.std.proofs.lemmas.List.{ext_get_or}
 use Rattle.level_range.specs.Signal.{Signal}
@@ -8,10 +8,9 @@ use Rattle.flat_net.specs.declared.kinds.Cell.{Cell}
 use Rattle.flat_net.specs.declared.kinds.Cell.TheVariants.{Element as ElementCell, Island as IslandCell}
 use Rattle.flat_net.specs.Patches.{Netlist}
 use Rattle.cell_step.specs.declared.states.CellState.{CellState}
-use Rattle.cell_step.specs.declared.states.CellState.TheVariants.{Element, Island}
+use Rattle.cell_step.specs.declared.states.CellState.TheVariants.{Island}
 use Rattle.cell_step.specs.Readings.{Readings}
-use Rattle.cell_step.specs.Changes.{mature_cell}
-use Rattle.machine.specs.Machine.{Machine, cell_count, cell_of, cell_state, state_among, no_island_state, readings}
+use Rattle.machine.specs.Machine.{Machine, cell_count, cell_of, cell_state, no_island_state, readings}
 use Rattle.machine.specs.Pass.{is_cell_due, is_machine_due, cell_after, settle_cell, evaluate_cell, mature, settle, evaluate, first_phase, pass, next_readings, next_cell}
 use Rattle.machine.specs.Touched.{AgreeAt, IsTouched, last_readings}
 use Rattle.machine.specs.Sound.{IsMachine, Rests}
