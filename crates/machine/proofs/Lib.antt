@@ -11,3 +11,6 @@ pub mod Machines
 pub mod Steps
 pub mod Ticks
 pub mod Runs
+pub mod Injection
+pub mod Hiding
+pub mod MachineRuns

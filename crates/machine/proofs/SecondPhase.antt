@@ -29,7 +29,7 @@ use Rattle.machine.proofs.Reading.{drives-within, links-within}
 -- ---- islands
 
 -- a state that stands at the number of an island stays
-island-stays : (netlist : Netlist) (m : Machine) (island : ℕ) →
+pub island-stays : (netlist : Netlist) (m : Machine) (island : ℕ) →
     cell_state (evaluate netlist m) (number_of netlist.parts (IslandCell island)) ≡ cell_state m (number_of netlist.parts (IslandCell island))
 island-stays netlist m island =
     let number : ℕ = number_of netlist.parts (IslandCell island) in

@@ -1,6 +1,7 @@
 pub mod Machine
 pub mod Pass
 pub mod Touched
+pub mod Hiding
 pub mod Sound
 pub mod System
 pub mod Run
