@@ -14,3 +14,5 @@ pub mod Runs
 pub mod Injection
 pub mod Hiding
 pub mod MachineRuns
+pub mod SameStates
+pub mod Decisions
