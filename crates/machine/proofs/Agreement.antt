@@ -30,11 +30,11 @@ AgreeAt-stable parts (ElementCell number) r s never =
 AgreeAt-stable parts (IslandCell number) r s never =
     let island = island_at parts number in
     let drives : ¬ (¬ All (λ (drive : Drive). r.drive drive.element drive.pin ≡ s.drive drive.element drive.pin) island.drives) =
-        λ none. never (λ (agree : AgreeAtIsland island r s). none agree.drives) in
+    λ none. never (λ (agree : AgreeAtIsland island r s). none agree.drives) in
     let links : ¬ (¬ All (λ link. r.conduct link ≡ s.conduct link) island.links) =
-        λ none. never (λ (agree : AgreeAtIsland island r s). none agree.links) in
+    λ none. never (λ (agree : AgreeAtIsland island r s). none agree.links) in
     let inputs : ¬ (¬ All (λ net. r.input net ≡ s.input net) island.nets) =
-        λ none. never (λ (agree : AgreeAtIsland island r s). none agree.inputs) in
+    λ none. never (λ (agree : AgreeAtIsland island r s). none agree.inputs) in
     record {
       drives = All-stable (λ (drive : Drive). r.drive drive.element drive.pin ≡ s.drive drive.element drive.pin) island.drives
           (λ drive. stable same_signal IsEquality-same_signal (r.drive drive.element drive.pin) (s.drive drive.element drive.pin)) drives;

@@ -1,11 +1,11 @@
 -- The tests decide where cells are touched, and where faults show and are visible.
-use Rattle.std.proofs.Common.{◌≡◌, ◌≢◌, ◌⊎◌, ℕ, zero, suc, ◌+◌, ◌<◌, ◌≤◌, Bool, true, false, List, [], ◌∷◌, ◌++◌, length, get_or, refl, ap, sym, ◌∙◌, subst, inl, inr, arith}
-use Rattle.std.specs.Prelude.{All, Contains, ◌&&◌, ◌||◌, not, nat_eq, map}
-use Rattle.std.specs.List.{list_all, list_any}
+use Rattle.std.proofs.Common.{◌≡◌, ℕ, zero, suc, ◌<◌, Bool, true, false, List, [], ◌∷◌, length, refl, ap, sym, ◌∙◌, subst, inl, inr, arith}
+use Rattle.std.specs.Prelude.{All, Contains, not, map}
+use Rattle.std.specs.List.{list_any}
 use Rattle.std.specs.Bool.{Decides}
 use Rattle.std.proofs.lemmas.Bool.Decides.{Decides-and, Decides-or, Decides-not, Decides-like, Decides-eqb}
 use Rattle.std.proofs.lemmas.Bool.{or_cases, true≢false}
-use Rattle.std.proofs.lemmas.List.{get_or-map, length-map, get_or_default}
+use Rattle.std.proofs.lemmas.List.{get_or-map, length-map}
 use Rattle.std.proofs.lemmas.List.Elements.{Contains-append_left, Contains-append_right, Contains-append_cases, All-contains}
 use Rattle.std.proofs.lemmas.List.Folds.{list_any_at}
 use Rattle.delay_rule.specs.Inertia.{same_signal, same_conduct}
@@ -22,7 +22,7 @@ use Rattle.machine.specs.Machine.{Machine, cell_of, number_of, cell_state}
 use Rattle.machine.specs.Pass.{is_cell_due, next_readings, pass}
 use Rattle.machine.specs.Touched.{AgreeAt, last_readings, IsTouched, CellReads, Reads, Shows, ShowsAround, IsVisible}
 use Rattle.flat_net.specs.Soundness.{IsSound}
-use Rattle.machine.specs.Tests.{same_cell, agrees_at, is_touched, shows, shows_around, cells_read_by, cells_read, is_visible}
+use Rattle.machine.specs.Tests.{agrees_at, is_touched, shows, shows_around, cells_read_by, cells_read, is_visible}
 use Rattle.machine.proofs.Numbers.{cell_of-element, cell_of-island, number_of-cell_of}
 use Rattle.machine.proofs.Reading.{drives-within, links-within}
 use Rattle.machine.proofs.SameStates.{IsEquality-same_cell}
@@ -35,12 +35,12 @@ Decides-agrees_at parts (ElementCell number) r s =
 Decides-agrees_at parts (IslandCell number) r s =
     let island = island_at parts number in
     let drives = Decides-list_all (λ (drive : Drive). same_signal (r.drive drive.element drive.pin) (s.drive drive.element drive.pin))
-        (λ (drive : Drive). r.drive drive.element drive.pin ≡ s.drive drive.element drive.pin)
-        (λ drive. IsEquality-same_signal (r.drive drive.element drive.pin) (s.drive drive.element drive.pin)) island.drives in
+    (λ (drive : Drive). r.drive drive.element drive.pin ≡ s.drive drive.element drive.pin)
+    (λ drive. IsEquality-same_signal (r.drive drive.element drive.pin) (s.drive drive.element drive.pin)) island.drives in
     let links = Decides-list_all (λ link. same_conduct (r.conduct link) (s.conduct link)) (λ link. r.conduct link ≡ s.conduct link)
-        (λ link. IsEquality-same_conduct (r.conduct link) (s.conduct link)) island.links in
+    (λ link. IsEquality-same_conduct (r.conduct link) (s.conduct link)) island.links in
     let inputs = Decides-list_all (λ net. same_signal (r.input net) (s.input net)) (λ net. r.input net ≡ s.input net)
-        (λ net. IsEquality-same_signal (r.input net) (s.input net)) island.nets in
+    (λ net. IsEquality-same_signal (r.input net) (s.input net)) island.nets in
     Decides-like (agrees_at parts (IslandCell number) r s)
     (λ (w : All (λ (drive : Drive). r.drive drive.element drive.pin ≡ s.drive drive.element drive.pin) island.drives
     × (All (λ link. r.conduct link ≡ s.conduct link) island.links × All (λ net. r.input net ≡ s.input net) island.nets)).
@@ -98,12 +98,12 @@ module _ (parts : Parts) (sound : IsSound parts) where
         | inl driven ↦
             let found = map-contains (λ (drive : Drive). drive.element) (island_at parts island).drives other driven in
             let inner : other < length parts.elements =
-                subst (λ (k : ℕ). k < length parts.elements) found.2
-                (All-contains (λ (drive : Drive). drive.element < length parts.elements) (island_at parts island).drives found.0 (drives-within parts sound island) found.1) in
+            subst (λ (k : ℕ). k < length parts.elements) found.2
+            (All-contains (λ (drive : Drive). drive.element < length parts.elements) (island_at parts island).drives found.0 (drives-within parts sound island) found.1) in
             inner-read island other inner (inl (found.0, found.1, found.2))
         | inr linked ↦
             let inner : other < length parts.elements =
-                All-contains (λ (link : ℕ). link < length parts.elements) (island_at parts island).links other (links-within parts sound island) linked in
+            All-contains (λ (link : ℕ). link < length parts.elements) (island_at parts island).links other (links-within parts sound island) linked in
             inner-read island other inner (inr linked)
       ]
 
@@ -156,7 +156,7 @@ module _ (netlist injected : Netlist) (site : ℕ) (good faulty : Machine) where
     read-shown : any_read ≡ true → ReadsShown
     read-shown e =
         let found = any-of (shows_around netlist injected site good faulty) (ShowsAround netlist injected site good faulty) Decides-shows_around
-            (cells_read netlist.parts number) e in
+        (cells_read netlist.parts number) e in
         (found.0, (cells_read-are netlist.parts sound number found.0).0 found.1, found.2)
 
     shown-read : ReadsShown → any_read ≡ true

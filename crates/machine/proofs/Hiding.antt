@@ -1,7 +1,6 @@
 -- Where a fault doesn't show at a cell, nor at those that the cell reads when it reads them, it doesn't show there after the
 -- pass.
-use Rattle.std.proofs.Common.{◌≡◌, ◌≢◌, ℕ, ◌+◌, ◌<◌, ◌≤◌, List, length, get_or, refl, ap, sym, ◌∙◌, subst, inl, inr, arith}
-use Rattle.std.specs.Prelude.{All, Contains}
+use Rattle.std.proofs.Common.{◌≡◌, ℕ, ◌<◌, List, length, get_or, refl, ap, sym, ◌∙◌, subst, inl, inr, arith}
 use Rattle.std.proofs.lemmas.List.Elements.{Contains-get_or}
 use Rattle.level_range.specs.Signal.{Signal}
 use Rattle.flat_net.specs.declared.kinds.Cell.{Cell}
@@ -11,19 +10,18 @@ use Rattle.flat_net.specs.declared.parts.Drive.{Drive}
 use Rattle.flat_net.specs.declared.parts.Parts.{Parts}
 use Rattle.flat_net.specs.Soundness.{IsSound}
 use Rattle.flat_net.specs.Patches.{Netlist, patch_of}
-use Rattle.cell_step.specs.declared.states.ElementState.{ElementState}
 use Rattle.cell_step.specs.declared.states.CellState.{CellState}
 use Rattle.cell_step.specs.Changes.{mature_cell}
-use Rattle.cell_step.specs.Readings.{Readings, element_at, net_at, island_at}
+use Rattle.cell_step.specs.Readings.{element_at, net_at, island_at}
 use Rattle.cell_step.specs.Elements.{drive_at, conduct_at}
 use Rattle.cell_step.specs.Islands.{state_at}
 use Rattle.machine.specs.Machine.{Machine, cell_count, cell_of, number_of, cell_state, as_element, as_island, net_state, input_among, readings}
-use Rattle.machine.specs.Pass.{mature, evaluate, first_phase, pass, next_readings}
-use Rattle.machine.specs.Touched.{AgreeAt, CellReads, Reads}
+use Rattle.machine.specs.Pass.{mature, first_phase, pass, next_readings}
+use Rattle.machine.specs.Touched.{AgreeAt, CellReads}
 use Rattle.machine.specs.Hiding.{Hides, HidesFrom, IsInjected, AreAbreast}
 use Rattle.machine.proofs.Numbers.{cell_of-element, cell_of-island}
 use Rattle.machine.proofs.PassAt.{mature-at}
-use Rattle.machine.proofs.Locality.{AreAlikeAt, pass-local}
+use Rattle.machine.proofs.Locality.{pass-local}
 use Rattle.machine.proofs.Reading.{drives-within, links-within}
 use Rattle.machine.proofs.SecondPhase.{island-stays}
 
@@ -106,7 +104,7 @@ module _ (netlist injected : Netlist) (site : ℕ) (good faulty : Machine) (soun
         let drive : Drive = get_or (island_at parts island).drives k d in
         let inner = drives-within parts sound island k d lt in
         let reads : CellReads parts (IslandCell island) (ElementCell drive.element) =
-            inl (drive, Contains-get_or (island_at parts island).drives k d lt, refl) in
+        inl (drive, Contains-get_or (island_at parts island).drives k d lt, refl) in
         sym (drive-same drive.element drive.pin inner
         (from drive.element (subst (CellReads parts (IslandCell island)) (sym (cell_of-element parts drive.element inner)) reads)));
     links = λ k d lt.

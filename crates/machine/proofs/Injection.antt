@@ -1,15 +1,12 @@
 -- A faulty netlist has the parts of the netlist and its patches, but for that of one cell.
-use Rattle.std.proofs.Common.{◌≡◌, ◌≢◌, ℕ, ◌+◌, ◌<◌, ◌≤◌, List, length, get_or, set, refl, ap, sym, ◌∙◌, subst, inl, inr, arith}
-use Rattle.std.specs.Prelude.{slice_get}
-use Rattle.std.specs.Option.{unwrap_or}
+use Rattle.std.proofs.Common.{◌≡◌, ◌≢◌, ℕ, ◌+◌, length, set, refl, ap, sym, ◌∙◌}
 use Rattle.std.proofs.lemmas.Option.{unwrap_or-slice_get}
-use Rattle.std.proofs.lemmas.List.{get_or-set_same, get_or-set_other}
+use Rattle.std.proofs.lemmas.List.{get_or-set_other}
 use Rattle.flat_net.specs.declared.kinds.Cell.{Cell}
 use Rattle.flat_net.specs.declared.kinds.Cell.TheVariants.{Element as ElementCell, Island as IslandCell}
 use Rattle.flat_net.specs.declared.kinds.Patch.{Patch}
 use Rattle.flat_net.specs.declared.kinds.Patch.TheVariants.{Whole}
-use Rattle.flat_net.specs.declared.parts.Parts.{Parts}
-use Rattle.flat_net.specs.Patches.{Netlist, patch_of, with_patch}
+use Rattle.flat_net.specs.Patches.{Netlist, patch_of}
 use Rattle.machine.specs.Machine.{cell_of, number_of, inject}
 use Rattle.machine.specs.Hiding.{IsInjected}
 use Rattle.machine.proofs.Numbers.{number_of-cell_of}

@@ -16,3 +16,4 @@ pub mod Hiding
 pub mod MachineRuns
 pub mod SameStates
 pub mod Decisions
+pub mod Rows

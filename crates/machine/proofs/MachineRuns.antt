@@ -1,5 +1,5 @@
 -- Passes, steps and runs of the machines of a netlist.
-use Rattle.std.proofs.Common.{◌≡◌, ◌⊎◌, ℕ, zero, suc, ◌+◌, ◌-◌, ◌<◌, ◌≤◌, Bool, true, false, cond, List, [], ◌∷◌, length, refl, ap, sym, ◌∙◌, subst, inl, inr, arith}
+use Rattle.std.proofs.Common.{◌≡◌, ℕ, zero, suc, ◌+◌, ◌≤◌, Bool, true, false, List, [], refl, ap, sym, ◌∙◌, subst, arith}
 use Rattle.std.specs.Prelude.{All}
 use Rattle.std.proofs.lemmas.List.Elements.{All-nil, All-cons}
 use Rattle.level_range.specs.Signal.{Signal}
@@ -10,8 +10,8 @@ use Rattle.cell_step.specs.Fitting.{HasAcceptedPrimitives}
 use Rattle.machine.specs.Machine.{Machine, start, begin}
 use Rattle.machine.specs.Pass.{is_machine_due, one_more, mature, settle, evaluate, first_phase, pass}
 use Rattle.machine.specs.Sound.{AreInputs, IsMachine}
-use Rattle.machine.specs.System.{System, passes, step, step_at, machines}
-use Rattle.machine.specs.Run.{Schedule, Ended, Run, over, oscillating, then_run, run_from, run, netlist_run}
+use Rattle.machine.specs.System.{repeat_pass, step, step_at, machines}
+use Rattle.machine.specs.Run.{Schedule, Ended, run_from, run, netlist_run}
 use Rattle.machine.proofs.Stillness.{pass-still}
 use Rattle.machine.proofs.Machines.{start-is_machine, begin-is_machine, pass-is_machine}
 use Rattle.machine.proofs.Steps.{step-is}
@@ -35,17 +35,17 @@ pass-idle netlist m machine passed quiet inputs =
     ∙ ap (λ (signals : List Signal). let n : Machine = record m { passes = one_more m.passes; last_inputs = signals } in n) inputs
 
 module _ (netlist : Netlist) (sound : IsSound netlist.parts) (accepted : HasAcceptedPrimitives netlist.parts) where
-  pub passes-are_machines : (count : ℕ) (m : Machine) → IsMachine netlist m → IsMachine netlist (passes (machines netlist) count m)
-  unfolding passes
-  passes-are_machines zero m is = is
-  passes-are_machines (suc count) m is = passes-are_machines count (pass netlist m) (pass-is_machine netlist sound accepted m is)
+  pub repeat_pass-is_machine : (count : ℕ) (m : Machine) → IsMachine netlist m → IsMachine netlist (repeat_pass (machines netlist) count m)
+  unfolding repeat_pass
+  repeat_pass-is_machine zero m is = is
+  repeat_pass-is_machine (suc count) m is = repeat_pass-is_machine count (pass netlist m) (pass-is_machine netlist sound accepted m is)
 
   -- a step leaves a machine of the netlist
   pub step-is_machine : (limit : ℕ) (m : Machine) → IsMachine netlist m → IsMachine netlist (step (machines netlist) limit m)
   step-is_machine limit m is =
       let made = step-is (machines netlist) limit m in
       subst (IsMachine netlist) (sym made.made)
-      (passes-are_machines made.count (pass netlist m) (pass-is_machine netlist sound accepted m is))
+      (repeat_pass-is_machine made.count (pass netlist m) (pass-is_machine netlist sound accepted m is))
 
   module _ (limit : ℕ) (schedule : Schedule) (inputs : (tick : ℕ) → tick ≤ schedule.end → AreInputs netlist.parts (schedule.inputs_at tick)) where
     made-is_machine : (tick : ℕ) (m : Machine) → tick ≤ schedule.end → IsMachine netlist m →

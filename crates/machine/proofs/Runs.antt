@@ -4,27 +4,27 @@ use Rattle.std.specs.Prelude.{All}
 use Rattle.std.specs.Option.{option_map_or, IfSome}
 use Rattle.std.proofs.lemmas.List.Elements.{All-nil, All-cons}
 use Rattle.machine.specs.System.{System, step_at}
-use Rattle.machine.specs.Run.{Schedule, Ended, Run, next_tick, IsNextTick, IsLastTick, over, oscillating, then_run, run_from, run, AreSteps, DoTicksRise}
+use Rattle.machine.specs.Run.{Schedule, Ended, Run, next_tick, IsNextTick, IsLastTick, no_steps, oscillation_at, then_run, run_from, run, AreSteps, DoTicksRise}
 use Rattle.machine.proofs.Ticks.{next_tick-is, next_tick-none}
 
 -- ---- what holds of every run that is made of steps
 
 module _ {M : Type 0} (system : System M) (limit : ℕ) (schedule : Schedule) (P : ℕ → M → Run M → Type 0)
-    (none : (tick : ℕ) (m : M) → P tick m over)
-    (stops : (tick : ℕ) (m : M) → tick ≤ schedule.end → system.is_due (step_at system limit tick (schedule.inputs_at tick) m) ≡ true → P tick m (oscillating tick))
+    (none : (tick : ℕ) (m : M) → P tick m no_steps)
+    (stops : (tick : ℕ) (m : M) → tick ≤ schedule.end → system.is_due (step_at system limit tick (schedule.inputs_at tick) m) ≡ true → P tick m (oscillation_at tick))
     (ends : (tick : ℕ) (m : M) → tick ≤ schedule.end → system.is_due (step_at system limit tick (schedule.inputs_at tick) m) ≡ false →
-        IsLastTick schedule tick (system.due_times (step_at system limit tick (schedule.inputs_at tick) m)) →
-        P tick m (then_run tick (step_at system limit tick (schedule.inputs_at tick) m) over))
+    IsLastTick schedule tick (system.due_times (step_at system limit tick (schedule.inputs_at tick) m)) →
+    P tick m (then_run tick (step_at system limit tick (schedule.inputs_at tick) m) no_steps))
     (goes_on : (tick next : ℕ) (m : M) (rest : Run M) → tick ≤ schedule.end → system.is_due (step_at system limit tick (schedule.inputs_at tick) m) ≡ false →
-        IsNextTick schedule tick (system.due_times (step_at system limit tick (schedule.inputs_at tick) m)) next →
-        P next (step_at system limit tick (schedule.inputs_at tick) m) rest → P tick m (then_run tick (step_at system limit tick (schedule.inputs_at tick) m) rest)) where
+    IsNextTick schedule tick (system.due_times (step_at system limit tick (schedule.inputs_at tick) m)) next →
+    P next (step_at system limit tick (schedule.inputs_at tick) m) rest → P tick m (then_run tick (step_at system limit tick (schedule.inputs_at tick) m) rest)) where
   abbrev after : ℕ → M → M
   after tick m = step_at system limit tick (schedule.inputs_at tick) m
 
   by_next : (bound tick : ℕ) (m : M) (next : Option ℕ) → tick ≤ schedule.end → system.is_due (after tick m) ≡ false →
       next_tick schedule tick (system.due_times (after tick m)) ≡ next →
       ((next : ℕ) → next ≤ schedule.end → P next (after tick m) (run_from bound system limit schedule next (after tick m))) →
-      P tick m (then_run tick (after tick m) (option_map_or (λ next. run_from bound system limit schedule next (after tick m)) next over))
+      P tick m (then_run tick (after tick m) (option_map_or (λ next. run_from bound system limit schedule next (after tick m)) next no_steps))
   by_next bound tick m None le quiet e rest = ends tick m le quiet (next_tick-none schedule tick (system.due_times (after tick m)) e)
   by_next bound tick m (Some next) le quiet e rest =
       let is = next_tick-is schedule tick (system.due_times (after tick m)) next e in
@@ -32,8 +32,8 @@ module _ {M : Type 0} (system : System M) (limit : ℕ) (schedule : Schedule) (P
 
   by_test : (bound tick : ℕ) (m : M) (b : Bool) → tick ≤ schedule.end → system.is_due (after tick m) ≡ b →
       ((next : ℕ) → next ≤ schedule.end → P next (after tick m) (run_from bound system limit schedule next (after tick m))) →
-      P tick m (cond b (oscillating tick) (then_run tick (after tick m)
-      (option_map_or (λ next. run_from bound system limit schedule next (after tick m)) (next_tick schedule tick (system.due_times (after tick m))) over)))
+      P tick m (cond b (oscillation_at tick) (then_run tick (after tick m)
+      (option_map_or (λ next. run_from bound system limit schedule next (after tick m)) (next_tick schedule tick (system.due_times (after tick m))) no_steps)))
   by_test bound tick m true le due rest = stops tick m le due
   by_test bound tick m false le due rest = by_next bound tick m (next_tick schedule tick (system.due_times (after tick m))) le due refl rest
 
@@ -146,16 +146,16 @@ module _ {M : Type 0} (system : System M) (limit : ℕ) (schedule : Schedule) wh
       by_next : (next : Option ℕ) → next_of tick m ≡ next →
           ((t : ℕ) → IsNextTick schedule tick (system.due_times (made tick m).machine) t →
           run_from more system limit schedule t (made tick m).machine ≡ run_from bound system limit schedule t (made tick m).machine) →
-          option_map_or (λ t. run_from more system limit schedule t (made tick m).machine) next over
-          ≡ option_map_or (λ t. run_from bound system limit schedule t (made tick m).machine) next over
+          option_map_or (λ t. run_from more system limit schedule t (made tick m).machine) next no_steps
+          ≡ option_map_or (λ t. run_from bound system limit schedule t (made tick m).machine) next no_steps
       by_next None e rest = refl
       by_next (Some next) e rest = rest next (next_tick-is schedule tick (system.due_times (made tick m).machine) next e)
 
       by_test : (b : Bool) →
-          option_map_or (λ t. run_from more system limit schedule t (made tick m).machine) (next_of tick m) over
-          ≡ option_map_or (λ t. run_from bound system limit schedule t (made tick m).machine) (next_of tick m) over →
-          cond b (oscillating tick) (then_run tick (made tick m).machine (option_map_or (λ t. run_from more system limit schedule t (made tick m).machine) (next_of tick m) over))
-          ≡ cond b (oscillating tick) (then_run tick (made tick m).machine (option_map_or (λ t. run_from bound system limit schedule t (made tick m).machine) (next_of tick m) over))
+          option_map_or (λ t. run_from more system limit schedule t (made tick m).machine) (next_of tick m) no_steps
+          ≡ option_map_or (λ t. run_from bound system limit schedule t (made tick m).machine) (next_of tick m) no_steps →
+          cond b (oscillation_at tick) (then_run tick (made tick m).machine (option_map_or (λ t. run_from more system limit schedule t (made tick m).machine) (next_of tick m) no_steps))
+          ≡ cond b (oscillation_at tick) (then_run tick (made tick m).machine (option_map_or (λ t. run_from bound system limit schedule t (made tick m).machine) (next_of tick m) no_steps))
       by_test true e = refl
       by_test false e = ap (then_run tick (made tick m).machine) e
 
@@ -179,8 +179,8 @@ module _ {M : Type 0} (system : System M) (limit : ℕ) (schedule : Schedule) wh
           AreSteps system limit schedule t (made tick m).machine (run_from bound system limit schedule t (made tick m).machine).ended
           (run_from bound system limit schedule t (made tick m).machine).oscillated) →
           AreSteps system limit schedule tick m
-          (made tick m ∷ (option_map_or (λ t. run_from bound system limit schedule t (made tick m).machine) next over).ended)
-          (option_map_or (λ t. run_from bound system limit schedule t (made tick m).machine) next over).oscillated
+          (made tick m ∷ (option_map_or (λ t. run_from bound system limit schedule t (made tick m).machine) next no_steps).ended)
+          (option_map_or (λ t. run_from bound system limit schedule t (made tick m).machine) next no_steps).oscillated
       by_next None e quiet rest =
           (refl, refl, quiet, inl (next_tick-none schedule tick (system.due_times (made tick m).machine) e, refl, refl))
       by_next (Some next) e quiet rest =
@@ -191,8 +191,8 @@ module _ {M : Type 0} (system : System M) (limit : ℕ) (schedule : Schedule) wh
           ((t : ℕ) → IsNextTick schedule tick (system.due_times (made tick m).machine) t →
           AreSteps system limit schedule t (made tick m).machine (run_from bound system limit schedule t (made tick m).machine).ended
           (run_from bound system limit schedule t (made tick m).machine).oscillated) →
-          (let r = cond b (oscillating tick) (then_run tick (made tick m).machine
-          (option_map_or (λ t. run_from bound system limit schedule t (made tick m).machine) (next_of tick m) over)) in
+          (let r = cond b (oscillation_at tick) (then_run tick (made tick m).machine
+          (option_map_or (λ t. run_from bound system limit schedule t (made tick m).machine) (next_of tick m) no_steps)) in
           AreSteps system limit schedule tick m r.ended r.oscillated)
       by_test true due rest = (due, refl)
       by_test false quiet rest = by_next (next_of tick m) refl quiet rest

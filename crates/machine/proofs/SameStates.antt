@@ -1,7 +1,6 @@
 -- The tests of two states decide whether these are equal.
-use Rattle.std.proofs.Common.{◌≡◌, ℕ, Bool, true, false, List, [], ◌∷◌, Option, Some, None, refl, ap, sym, ◌∙◌}
+use Rattle.std.proofs.Common.{◌≡◌, ℕ, Bool, List, [], ◌∷◌, Option, Some, None, refl, ap, ◌∙◌}
 use Rattle.std.specs.Prelude.{◌&&◌, nat_eq}
-use Rattle.std.specs.Bool.{Decides}
 use Rattle.std.proofs.lemmas.Bool.Decides.{Decides-and, Decides-like, Decides-eqb}
 use Rattle.level_range.specs.Signal.{Signal}
 use Rattle.level_range.specs.declared.range.Logic.{Logic}
@@ -111,10 +110,16 @@ element-parts : (a b : ElementState) → a ≡ b → ElementParts a b
 unfolding ElementParts
 element-parts a b e = (
   ap (λ (s : ElementState). s.out) e,
-  (ap (λ (s : ElementState). s.on) e,
-  (ap (λ (s : ElementState). s.due) e,
-  (ap (λ (s : ElementState). s.switch_due) e,
-  (ap (λ (s : ElementState). s.state) e, ap (λ (s : ElementState). s.seen) e)))),
+  (
+    ap (λ (s : ElementState). s.on) e,
+    (
+      ap (λ (s : ElementState). s.due) e,
+      (
+        ap (λ (s : ElementState). s.switch_due) e,
+        (ap (λ (s : ElementState). s.state) e, ap (λ (s : ElementState). s.seen) e),
+      ),
+    ),
+  ),
 )
 
 IsEquality-same_element : IsEquality same_element
@@ -144,9 +149,13 @@ net-parts : (a b : NetState) → a ≡ b → NetParts a b
 unfolding NetParts
 net-parts a b e = (
   ap (λ (s : NetState). s.settled) e,
-  (ap (λ (s : NetState). s.seen) e,
-  (ap (λ (s : NetState). s.due) e,
-  (ap (λ (s : NetState). s.charge) e, ap (λ (s : NetState). s.timer) e))),
+  (
+    ap (λ (s : NetState). s.seen) e,
+    (
+      ap (λ (s : NetState). s.due) e,
+      (ap (λ (s : NetState). s.charge) e, ap (λ (s : NetState). s.timer) e),
+    ),
+  ),
 )
 
 IsEquality-same_net : IsEquality same_net

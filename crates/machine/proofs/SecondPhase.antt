@@ -84,10 +84,10 @@ pass-alike netlist m element inner lt =
     let before = mature-at m element in
     let s : CellState = mature_cell m.time (cell_state m element) in
     let after : cell_state (pass netlist m) element ≡ cell_after netlist (ElementCell element) m.time (next_readings netlist m (ElementCell element)) s =
-        pass-at netlist m element lt
-        ∙ ap (λ (c : Cell). cell_after netlist c m.time (next_readings netlist m c) s) cell in
+    pass-at netlist m element lt
+    ∙ ap (λ (c : Cell). cell_after netlist c m.time (next_readings netlist m c) s) cell in
     let alike = element_after-alike netlist.parts element (patch_of netlist (ElementCell element)) m.time
-        (next_readings netlist m (ElementCell element)) (as_element s) in
+    (next_readings netlist m (ElementCell element)) (as_element s) in
     record {
       out = ap (λ (c : CellState). (as_element c).out) after ∙ alike.out ∙ sym (ap (λ (c : CellState). (as_element c).out) before);
       on = ap (λ (c : CellState). (as_element c).on) after ∙ alike.on ∙ sym (ap (λ (c : CellState). (as_element c).on) before);

@@ -1,24 +1,24 @@
 -- A time step is what it is said to be.
 use Rattle.std.proofs.Common.{◌≡◌, ◌⊎◌, ℕ, zero, suc, ◌-◌, ◌<◌, ◌≤◌, Bool, true, false, cond, refl, ap, inl, inr, arith}
-use Rattle.machine.specs.System.{System, further, step, passes, IsStep}
+use Rattle.machine.specs.System.{System, further, step, repeat_pass, IsStep}
 
 -- further passes, from a machine that made some
 record IsFurther {M : Type 0} (system : System M) (left : ℕ) (m after : M) : Type 0 where
   count : ℕ
   most : count ≤ left
-  made : after ≡ passes system count m
-  due : (k : ℕ) → k < count → system.is_due (passes system k m) ≡ true
+  made : after ≡ repeat_pass system count m
+  due : (k : ℕ) → k < count → system.is_due (repeat_pass system k m) ≡ true
   stops : (system.is_due after ≡ false) ⊎ (count ≡ left)
 
 module _ {M : Type 0} (system : System M) where
-  first-due : (m : M) (count : ℕ) → system.is_due m ≡ true → ((k : ℕ) → k < count → system.is_due (passes system k (system.pass m)) ≡ true) →
-      (k : ℕ) → k < suc count → system.is_due (passes system k m) ≡ true
-  unfolding passes
+  first-due : (m : M) (count : ℕ) → system.is_due m ≡ true → ((k : ℕ) → k < count → system.is_due (repeat_pass system k (system.pass m)) ≡ true) →
+      (k : ℕ) → k < suc count → system.is_due (repeat_pass system k m) ≡ true
+  unfolding repeat_pass
   first-due m count here later zero lt = here
   first-due m count here later (suc k) lt = later k (omega arith)
 
   further-more : (left : ℕ) (m after : M) → system.is_due m ≡ true → IsFurther system left (system.pass m) after → IsFurther system (suc left) m after
-  unfolding passes
+  unfolding repeat_pass
   further-more left m after here is = record {
     count = suc is.count;
     most = (let le = is.most in omega arith);
@@ -32,7 +32,7 @@ module _ {M : Type 0} (system : System M) where
       stop (inr all) = inr (ap suc all)
 
   none-made : (left : ℕ) (m : M) → (system.is_due m ≡ false) ⊎ (0 ≡ left) → IsFurther system left m m
-  unfolding passes
+  unfolding repeat_pass
   none-made left m stop = record { count = 0; most = omega arith; made = refl; due = λ k lt. absurd (omega arith); stops = stop }
 
   further-is : (left : ℕ) (m : M) → IsFurther system left m (further system left m)

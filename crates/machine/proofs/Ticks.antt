@@ -30,8 +30,7 @@ least-first x xs n none e =
     let f : Some (lesser x (least xs)) ≡ Some (lesser x None) = ap (λ (o : Option ℕ). Some (lesser x o)) none in
     let g : Some x ≡ Some n = sym f ∙ e in
     let h : x ≡ n = cc in
-    let empty = least-none xs none in
-    (
+    let empty = least-none xs none in (
       subst (λ (k : ℕ). Contains (x ∷ xs) k) h (contains-head x xs),
       All-cons (λ t. n ≤ t) x xs (omega arith) (subst (All (λ t. n ≤ t)) (sym empty) (All-nil (λ t. n ≤ t))),
     )
@@ -44,14 +43,12 @@ least-next x xs k n some rest e =
     let h : min x k ≡ n = cc in
     elim (cases_lt x k) [
       | inl lt ↦
-          let here : x ≡ n = omega arith in
-          (
+          let here : x ≡ n = omega arith in (
             subst (λ (t : ℕ). Contains (x ∷ xs) t) here (contains-head x xs),
             All-cons (λ t. n ≤ t) x xs (omega arith) (λ i d inside. let le = rest.1 i d inside in omega arith),
           )
       | inr ge ↦
-          let there : k ≡ n = omega arith in
-          (
+          let there : k ≡ n = omega arith in (
             subst (λ (t : ℕ). Contains (x ∷ xs) t) there (contains-tail x k xs rest.0),
             All-cons (λ t. n ≤ t) x xs (omega arith) (λ i d inside. let le = rest.1 i d inside in omega arith),
           )

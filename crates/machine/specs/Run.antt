@@ -50,24 +50,24 @@ pub record IsNextTick (schedule : Schedule) (tick : ℕ) (due : List ℕ) (next 
 abbrev pub IsLastTick : Schedule → ℕ → List ℕ → Type 0
 IsLastTick schedule tick due = (time : ℕ) → Contains (schedule.times ++ due) time → tick < time → schedule.end < time
 
--- a run that is over, one that oscillates at a tick, and one with a further step before it
-abbrev pub over : {M : Type 0} → Run M
-over = record { ended = []; oscillated = None }
+-- a run without steps, one that oscillates at a tick, and one with a further step before it
+abbrev pub no_steps : {M : Type 0} → Run M
+no_steps = record { ended = []; oscillated = None }
 
-abbrev pub oscillating : {M : Type 0} → ℕ → Run M
-oscillating tick = record { ended = []; oscillated = Some tick }
+abbrev pub oscillation_at : {M : Type 0} → ℕ → Run M
+oscillation_at tick = record { ended = []; oscillated = Some tick }
 
 abbrev pub then_run : {M : Type 0} → ℕ → M → Run M → Run M
 then_run tick m rest = record { ended = record { tick = tick; machine = m } ∷ rest.ended; oscillated = rest.oscillated }
 
 -- the run from a tick on, with a bound on its steps; it ends where one of them oscillates
 unfoldable pub run_from : {M : Type 0} → ℕ → System M → ℕ → Schedule → ℕ → M → Run M
-run_from zero system limit schedule tick m = over
+run_from zero system limit schedule tick m = no_steps
 run_from (suc bound) system limit schedule tick m =
     let after = step_at system limit tick (schedule.inputs_at tick) m in
-    if system.is_due after then oscillating tick
+    if system.is_due after then oscillation_at tick
     else then_run tick after (option_map_or (λ next. run_from bound system limit schedule next after)
-    (next_tick schedule tick (system.due_times after)) over)
+    (next_tick schedule tick (system.due_times after)) no_steps)
 
 -- a run: steps at 0, at each time of the vector text and at each due time, rising, up to and with the end. Since steps
 -- rise, there are at most as many as ticks

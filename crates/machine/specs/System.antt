@@ -27,17 +27,17 @@ abbrev pub step_at : {M : Type 0} → System M → ℕ → ℕ → List Signal �
 step_at system limit tick inputs m = step system limit (system.begin tick inputs m)
 
 -- so many passes
-unfoldable pub passes : {M : Type 0} → System M → ℕ → M → M
-passes system zero m = m
-passes system (suc count) m = passes system count (system.pass m)
+unfoldable pub repeat_pass : {M : Type 0} → System M → ℕ → M → M
+repeat_pass system zero m = m
+repeat_pass system (suc count) m = repeat_pass system count (system.pass m)
 
 -- a time step by what it is: a first pass and so many further ones, before each of which something is due; after the last
 -- nothing is, or there were as many as may be
 pub record IsStep {M : Type 0} (system : System M) (limit : ℕ) (m after : M) : Type 0 where
   pub count : ℕ
   pub most : count ≤ limit - 1
-  pub made : after ≡ passes system count (system.pass m)
-  pub due : (k : ℕ) → k < count → system.is_due (passes system k (system.pass m)) ≡ true
+  pub made : after ≡ repeat_pass system count (system.pass m)
+  pub due : (k : ℕ) → k < count → system.is_due (repeat_pass system k (system.pass m)) ≡ true
   pub stops : (system.is_due after ≡ false) ⊎ (count ≡ limit - 1)
 
 -- the machines of a netlist

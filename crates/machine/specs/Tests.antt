@@ -1,5 +1,5 @@
 -- Tests that decide where cells are touched and where faults show and are visible, so that such cells can be counted.
-use Rattle.std.specs.Prelude.{ℕ, ◌+◌, Bool, true, false, ◌&&◌, ◌||◌, not, nat_eq, List, [], ◌∷◌, ◌++◌, length, map, Option, Some, None}
+use Rattle.std.specs.Prelude.{ℕ, Bool, true, false, ◌&&◌, ◌||◌, not, nat_eq, List, [], ◌∷◌, ◌++◌, map, Option, Some, None}
 use Rattle.std.specs.List.{list_all, list_any, count_by, range_with_len}
 use Rattle.delay_rule.specs.declared.inertia.Pending.{Pending}
 use Rattle.delay_rule.specs.Inertia.{same_signal, same_conduct}
