@@ -16,4 +16,5 @@ pub mod Hiding
 pub mod MachineRuns
 pub mod SameStates
 pub mod Decisions
+pub mod Idling
 pub mod Rows

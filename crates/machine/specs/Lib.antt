@@ -4,5 +4,6 @@ pub mod Touched
 pub mod Hiding
 pub mod Tests
 pub mod Sound
+pub mod Idle
 pub mod System
 pub mod Run
