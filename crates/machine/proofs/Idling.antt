@@ -1,7 +1,6 @@
 -- What passes and times do to a machine that others don't need: nothing but to its time and its number of passes.
-use Rattle.std.proofs.Common.{◌≡◌, ◌⊎◌, ℕ, zero, suc, ◌+◌, ◌-◌, ◌<◌, ◌≤◌, Bool, true, false, List, [], ◌∷◌, ◌++◌, length, get_or, refl, ap, sym, ◌∙◌, subst, inl, inr, arith}
-use Rattle.std.specs.Prelude.{All, Contains, nat_le}
-use Rattle.std.specs.List.{list_any}
+use Rattle.std.proofs.Common.{◌≡◌, ◌⊎◌, ℕ, zero, suc, ◌+◌, ◌-◌, ◌<◌, ◌≤◌, Bool, true, false, List, refl, ap, sym, ◌∙◌, subst, inl, inr, arith}
+use Rattle.std.specs.Prelude.{Contains, nat_le}
 use Rattle.std.proofs.lemmas.Bool.{cases_lt, lt-leb, le-leb, true≢false}
 use Rattle.std.proofs.lemmas.List.Elements.{Contains-append_right, Contains-get_or}
 use Rattle.std.proofs.lemmas.List.Folds.{list_any_none, list_any_at}
@@ -19,7 +18,7 @@ use Rattle.machine.specs.Run.{Schedule, IsNextTick, IsLastTick, outputs_seen}
 use Rattle.machine.proofs.Maturing.{due_times-due}
 use Rattle.machine.proofs.Machines.{begin-is_machine}
 use Rattle.machine.proofs.Steps.{step-is}
-use Rattle.machine.proofs.MachineRuns.{pass-idle, repeat_pass-is_machine, step-is_machine}
+use Rattle.machine.proofs.MachineRuns.{pass-idle, step-is_machine}
 
 -- ---- machines that are the same but for their times
 
@@ -77,10 +76,9 @@ repeat_pass-idle netlist zero m is = (same-itself m, is)
 repeat_pass-idle netlist (suc count) m is =
     let one : Machine = record m { passes = one_more m.passes } in
     let e : pass netlist m ≡ one = idle-pass netlist m is in
-    let rest = repeat_pass-idle netlist count (pass netlist m) (subst (IsIdle netlist) (sym e) (idle-again netlist m is)) in
-    (
+    let rest = repeat_pass-idle netlist count (pass netlist m) (subst (IsIdle netlist) (sym e) (idle-again netlist m is)) in (
       same-chain (repeat_pass (machines netlist) count (pass netlist m)) (pass netlist m) m rest.0
-      (subst (λ (n : Machine). SameButTime n m) (sym e) (record { has_passed = refl; last_inputs = refl; cells = refl })),
+          (subst (λ (n : Machine). SameButTime n m) (sym e) (record { has_passed = refl; last_inputs = refl; cells = refl })),
       rest.1,
     )
 
@@ -132,7 +130,7 @@ quiet-before schedule m next time inputs quiet is before =
       | inl later ↦ later
       | inr early ↦
           let first = is.first at (Contains-append_right schedule.times (due_times m) at listed) (due-later m quiet at listed)
-              (let e = is.ended in omega arith) in
+          (let e = is.ended in omega arith) in
           absurd (omega arith)
     ])
 
@@ -209,9 +207,9 @@ step-same netlist sound accepted limit count m machine ended quiet =
     let after : Machine = step system limit m in
     let passed = step-passed netlist limit m in
     let e : repeat_pass system count (pass netlist m) ≡ repeat_pass system more after =
-        ap (λ (k : ℕ). repeat_pass system k (pass netlist m)) (let same : count ≡ made.count + more = omega arith in same)
-        ∙ repeat_pass-more system made.count more (pass netlist m)
-        ∙ ap (repeat_pass system more) (sym made.made) in
+    ap (λ (k : ℕ). repeat_pass system k (pass netlist m)) (let same : count ≡ made.count + more = omega arith in same)
+    ∙ repeat_pass-more system made.count more (pass netlist m)
+    ∙ ap (repeat_pass system more) (sym made.made) in
     let idle : IsIdle netlist after = record {
       machine = step-is_machine netlist sound accepted limit m machine;
       passed = passed.0;
