@@ -16,5 +16,6 @@ pub mod Hiding
 pub mod MachineRuns
 pub mod SameStates
 pub mod Decisions
+pub mod Ends
 pub mod Idling
 pub mod Rows

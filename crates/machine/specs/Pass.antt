@@ -1,6 +1,6 @@
 -- A pass: two phases over all cells of a machine, at its time. What is due is pending for that time or an earlier one. The
 -- order inside a time step is this project's own.
-use Rattle.std.specs.Prelude.{ℕ, ◌+◌, ◌-◌, ◌^◌, min, Bool, true, ◌||◌, List, [], ◌∷◌, ◌++◌, map, Option, Some, None}
+use Rattle.std.specs.Prelude.{ℕ, ◌+◌, ◌-◌, ◌^◌, min, Bool, true, false, ◌||◌, nat_le, if◌then◌else◌, List, [], ◌∷◌, ◌++◌, map, Option, Some, None}
 use Rattle.std.specs.List.{list_any, flat_map}
 use Rattle.delay_rule.specs.declared.inertia.Pending.{Pending}
 use Rattle.flat_net.specs.declared.kinds.Cell.{Cell}
@@ -9,6 +9,8 @@ use Rattle.flat_net.specs.Patches.{Netlist, patch_of}
 use Rattle.cell_step.specs.declared.states.Timer.{Timer}
 use Rattle.cell_step.specs.declared.states.Timer.TheVariants.{Idle, Running, Ended}
 use Rattle.cell_step.specs.declared.states.NetState.{NetState}
+use Rattle.cell_step.specs.declared.states.PassEnd.{PassEnd}
+use Rattle.cell_step.specs.declared.states.PassEnd.TheVariants.{Quiet, More, Oscillates}
 use Rattle.cell_step.specs.declared.states.CellState.{CellState}
 use Rattle.cell_step.specs.declared.states.CellState.TheVariants.{Element, Island}
 use Rattle.cell_step.specs.Readings.{Readings}
@@ -94,6 +96,16 @@ is_cell_due now (Island s) = list_any (is_net_due now) s.nets
 -- whether something is due in a machine at its time
 unfoldable pub is_machine_due : Machine → Bool
 is_machine_due m = list_any (is_cell_due m.time) m.cells
+
+-- what a pass leaves, by whether something is due, by how many passes were made at the time and by their limit: nothing is
+-- due, or something is and the limit isn't reached, or it is
+abbrev pub pass_end : Bool → ℕ → ℕ → PassEnd
+pass_end false passes limit = Quiet
+pass_end true passes limit = if nat_le limit passes then Oscillates else More
+
+-- what it leaves of a machine
+abbrev pub machine_end : ℕ → Machine → PassEnd
+machine_end limit m = pass_end (is_machine_due m) m.passes limit
 
 -- the time of a pending change, and that of a running timer
 abbrev pub change_times : {V : Type 0} → Option (Pending V) → List ℕ
