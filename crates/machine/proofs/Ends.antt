@@ -1,14 +1,12 @@
 -- A time step of a machine is what passes make that are repeated while they leave more to do.
-use Rattle.std.proofs.Common.{◌≡◌, ◌⊎◌, ℕ, zero, suc, ◌+◌, ◌-◌, ◌^◌, ◌<◌, ◌≤◌, min, Bool, true, false, cond, List, refl, ap, sym, ◌∙◌, subst, inl, inr, arith}
-use Rattle.std.specs.Prelude.{nat_le}
+use Rattle.std.proofs.Common.{◌≡◌, ◌⊎◌, ℕ, zero, suc, ◌+◌, ◌-◌, ◌^◌, ◌<◌, ◌≤◌, Bool, true, false, cond, List, refl, ap, sym, ◌∙◌, inl, inr, arith}
 use Rattle.std.proofs.lemmas.Bool.{lt-leb, le-leb}
 use Rattle.level_range.specs.Signal.{Signal}
 use Rattle.flat_net.specs.Patches.{Netlist}
-use Rattle.cell_step.specs.declared.states.PassEnd.{PassEnd}
 use Rattle.cell_step.specs.declared.states.PassEnd.TheVariants.{Quiet, More, Oscillates}
 use Rattle.machine.specs.Machine.{Machine, begin}
-use Rattle.machine.specs.Pass.{is_machine_due, one_more, mature, settle, evaluate, first_phase, pass, pass_end, machine_end}
-use Rattle.machine.specs.System.{System, repeat_pass, step, step_at, machines}
+use Rattle.machine.specs.Pass.{is_machine_due, one_more, pass, pass_end, machine_end}
+use Rattle.machine.specs.System.{repeat_pass, step_at, machines}
 use Rattle.machine.proofs.Steps.{step-is}
 
 pass-count : (netlist : Netlist) (m : Machine) → (pass netlist m).passes ≡ one_more m.passes

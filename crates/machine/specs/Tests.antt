@@ -64,7 +64,8 @@ same_cell (Island a) (Element b) = false
 
 -- whether two readings agree on what a cell reads
 unfoldable pub agrees_at : Parts → Cell → Readings → Readings → Bool
-agrees_at parts (ElementCell number) r s = list_all (λ net. same_signal (r.seen net) (s.seen net)) (element_at parts number).ins
+agrees_at parts (ElementCell number) r s =
+    list_all (λ net. same_signal (r.seen net) (s.seen net)) (element_at parts number).ins
 agrees_at parts (IslandCell number) r s =
     let island = island_at parts number in
     list_all (λ (drive : Drive). same_signal (r.drive drive.element drive.pin) (s.drive drive.element drive.pin)) island.drives
