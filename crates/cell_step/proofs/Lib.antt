@@ -1,3 +1,9 @@
+pub mod Filling
+pub mod PinLemmas
+pub mod GateLemmas
+pub mod PrimitiveLemmas
+pub mod ElementLemmas
+pub mod SameLemmas
 pub mod Mapping
 pub mod Locality
 pub mod Aiming
@@ -8,3 +14,5 @@ pub mod Facts
 pub mod Signals
 pub mod ElementsKept
 pub mod IslandsKept
+pub mod CellsKept
+pub mod Owning
