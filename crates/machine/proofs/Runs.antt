@@ -1,8 +1,9 @@
 -- Runs: a step that ended leaves nothing due, ticks rise up to the end, and the bound of a run suffices.
-use Rattle.std.proofs.Common.{◌≡◌, ◌⊎◌, ℕ, zero, suc, ◌+◌, ◌<◌, ◌≤◌, Bool, true, false, cond, List, [], ◌∷◌, Option, Some, None, refl, ap, sym, ◌∙◌, subst, inl, inr, arith}
-use Rattle.std.specs.Prelude.{All}
+use Rattle.std.proofs.Common.{◌≡◌, ◌≢◌, ◌⊎◌, ℕ, zero, suc, ◌+◌, ◌<◌, ◌≤◌, Bool, true, false, cond, List, [], ◌∷◌, Option, Some, None, refl, ap, sym, ◌∙◌, subst, inl, inr, arith}
+use Rattle.std.specs.Prelude.{All, Contains}
+use Rattle.std.proofs.lemmas.Bool.{cases_eq}
 use Rattle.std.specs.Option.{option_map_or, IfSome}
-use Rattle.std.proofs.lemmas.List.Elements.{All-nil, All-cons}
+use Rattle.std.proofs.lemmas.List.Elements.{All-nil, All-cons, Contains-append_left}
 use Rattle.machine.specs.System.{System, step_at}
 use Rattle.machine.specs.Run.{Schedule, Ended, Run, next_tick, IsNextTick, IsLastTick, no_steps, oscillation_at, then_run, run_from, run, AreSteps, DoTicksRise}
 use Rattle.machine.proofs.Ticks.{next_tick-is, next_tick-none}
@@ -251,3 +252,38 @@ module _ {M : Type 0} (system : System M) (limit : ℕ) (schedule : Schedule) wh
   steps-once [] tick m (y ∷ ys) p q a b =
       absurd (let e : false ≡ true = sym b.2 ∙ ap system.is_due b.1 ∙ a.0 in cc)
   steps-once (x ∷ xs) tick m ys p q a b = step-once x xs (steps-once xs) tick m ys p q a b
+
+  -- ---- the times of the vector text
+
+  head-made : (s : Ended M) (steps : List (Ended M)) (time : ℕ) → s.tick ≡ time → (x : Ended M) × Contains (s ∷ steps) x × (x.tick ≡ time)
+  head-made s steps time e = (s, (0, omega arith, refl), e)
+
+  tail-made : (s : Ended M) (steps : List (Ended M)) (time : ℕ) → (x : Ended M) × Contains steps x × (x.tick ≡ time) → (x : Ended M) × Contains (s ∷ steps) x × (x.tick ≡ time)
+  tail-made s steps time (x, (k, lt, is), e) = (x, (suc k, omega arith, is), e)
+
+  -- a step is made at each of those times from the first tick on, up to the end or to the tick at which one oscillates
+  pub times-made : (steps : List (Ended M)) (tick : ℕ) (m : M) (oscillated : Option ℕ) → AreSteps system limit schedule tick m steps oscillated →
+      (time : ℕ) → Contains schedule.times time → tick ≤ time → time ≤ schedule.end → ((o : ℕ) → oscillated ≡ Some o → time < o) →
+      (x : Ended M) × Contains steps x × (x.tick ≡ time)
+  times-made [] tick m oscillated are time listed from within before = absurd (let lt = before tick are.1 in omega arith)
+  times-made (s ∷ steps) tick m oscillated are time listed from within before = elim (cases_eq tick time) [
+    | inl e ↦ head-made s steps time (are.0 ∙ e)
+    | inr apart ↦ by_rest are.3 (λ next is rest.
+        let le : next ≤ time = is.first time (Contains-append_left schedule.times (system.due_times s.machine) time listed) (let lt : tick < time = omega arith in lt) within in
+        tail-made s steps time (times-made steps next s.machine oscillated rest time listed le within before)) apart
+  ]
+    where
+      by_rest :
+          (IsLastTick schedule tick (system.due_times s.machine) × (steps ≡ []) × (oscillated ≡ None))
+          ⊎ ((next : ℕ) × IsNextTick schedule tick (system.due_times s.machine) next × AreSteps system limit schedule next s.machine steps oscillated) →
+          ((next : ℕ) → IsNextTick schedule tick (system.due_times s.machine) next → AreSteps system limit schedule next s.machine steps oscillated →
+          (x : Ended M) × Contains (s ∷ steps) x × (x.tick ≡ time)) →
+          tick ≢ time →
+          (x : Ended M) × Contains (s ∷ steps) x × (x.tick ≡ time)
+      by_rest (inl last) go apart =
+          absurd (let past = last.0 time (Contains-append_left schedule.times (system.due_times s.machine) time listed) (omega arith) in omega arith)
+      by_rest (inr next) go apart = go next.0 next.1 next.2
+
+  pub run-times : (m : M) (time : ℕ) → Contains schedule.times time → time ≤ schedule.end → ((o : ℕ) → (run system limit schedule m).oscillated ≡ Some o → time < o) →
+      (x : Ended M) × Contains (run system limit schedule m).ended x × (x.tick ≡ time)
+  run-times m time listed within before = times-made (run system limit schedule m).ended 0 m (run system limit schedule m).oscillated (run-steps m) time listed (omega arith) within before
