@@ -1,4 +1,4 @@
--- What a cell's part in a pass, its start and what is due of it keep, in a sound netlist whose primitives are accepted.
+-- What a cell's part in a pass and its start keep, in a sound netlist whose primitives are accepted.
 use Rattle.std.proofs.Common.{◌≡◌, ℕ, ap}
 use Rattle.flat_net.specs.declared.kinds.Cell.{Cell}
 use Rattle.flat_net.specs.declared.kinds.Cell.TheVariants.{Element as ElementCell, Island as IslandCell}
@@ -7,11 +7,10 @@ use Rattle.flat_net.specs.Soundness.{IsSound}
 use Rattle.cell_step.specs.declared.states.CellState.{CellState}
 use Rattle.cell_step.specs.declared.states.CellState.TheVariants.{Element, Island}
 use Rattle.cell_step.specs.Readings.{Readings}
-use Rattle.cell_step.specs.Changes.{mature_cell}
 use Rattle.cell_step.specs.Fitting.{FitsCell, HasSignals, HasAcceptedPrimitives}
 use Rattle.cell_step.proofs.Signals.{AreReadings}
-use Rattle.cell_step.proofs.ElementsKept.{element_after-again, element_after-fits, element_after-signals, element_start-fits, element_start-signals, mature_element-fits, mature_element-signals}
-use Rattle.cell_step.proofs.IslandsKept.{island_after-again, island_after-fits, island_after-signals, island_start-fits, island_start-signals, mature_island-fits, mature_island-signals}
+use Rattle.cell_step.proofs.ElementsKept.{element_after-again, element_after-fits, element_after-signals, element_start-fits, element_start-signals}
+use Rattle.cell_step.proofs.IslandsKept.{island_after-again, island_after-fits, island_after-signals, island_start-fits, island_start-signals}
 use Rattle.machine.specs.Machine.{as_element, cell_start}
 use Rattle.machine.specs.Pass.{cell_after}
 
@@ -43,12 +42,6 @@ module _ (netlist : Netlist) (sound : IsSound netlist.parts) where
   cell_after-fits accepted (IslandCell number) lt now r (Island s) are fits =
       island_after-fits netlist.parts sound number lt (patch_of netlist (IslandCell number)) r are s fits now
 
-  pub mature_cell-fits : (cell : Cell) (now : ℕ) (s : CellState) → FitsCell netlist.parts cell s → FitsCell netlist.parts cell (mature_cell now s)
-  mature_cell-fits (ElementCell number) now (Element s) fits = mature_element-fits netlist.parts number now s fits
-  mature_cell-fits (ElementCell number) now (Island s) fits = absurd fits
-  mature_cell-fits (IslandCell number) now (Element s) fits = absurd fits
-  mature_cell-fits (IslandCell number) now (Island s) fits = mature_island-fits netlist.parts number now s fits
-
   pub cell_start-fits : HasAcceptedPrimitives netlist.parts → (cell : Cell) → IsCell netlist.parts cell → FitsCell netlist.parts cell (cell_start netlist cell)
   cell_start-fits accepted (ElementCell number) lt =
       element_start-fits netlist.parts sound number lt accepted (patch_of netlist (ElementCell number))
@@ -57,7 +50,3 @@ module _ (netlist : Netlist) (sound : IsSound netlist.parts) where
   pub cell_start-signals : (cell : Cell) → IsCell netlist.parts cell → HasSignals (cell_start netlist cell)
   cell_start-signals (ElementCell number) lt = element_start-signals netlist.parts sound number lt (patch_of netlist (ElementCell number))
   cell_start-signals (IslandCell number) lt = island_start-signals netlist.parts sound number lt
-
-pub mature_cell-signals : (now : ℕ) (s : CellState) → HasSignals s → HasSignals (mature_cell now s)
-mature_cell-signals now (Element s) has = mature_element-signals now s has
-mature_cell-signals now (Island s) has = mature_island-signals now s has

@@ -25,7 +25,8 @@ use Rattle.machine.proofs.PassAt.{length-first_phase, length-pass, mature-at, fi
 use Rattle.machine.proofs.Locality.{cell_after-local}
 use Rattle.cell_step.specs.Fitting.{HasAcceptedPrimitives}
 use Rattle.cell_step.proofs.Signals.{AreReadings}
-use Rattle.machine.proofs.Cells.{cell_after-again, cell_after-fits, cell_after-signals, mature_cell-fits, mature_cell-signals, cell_start-fits, cell_start-signals}
+use Rattle.cell_step.proofs.CellsKept.{mature_cell-fits, mature_cell-signals}
+use Rattle.machine.proofs.Cells.{cell_after-again, cell_after-fits, cell_after-signals, cell_start-fits, cell_start-signals}
 use Rattle.machine.proofs.Reading.{state_among-signals, readings-are}
 use Rattle.machine.proofs.SecondPhase.{reads-kept}
 
@@ -99,7 +100,7 @@ module _ (netlist : Netlist) (sound : IsSound netlist.parts) (accepted : HasAcce
 
   ripe-fits : (number : ℕ) → number < count → FitsCell netlist.parts (cell number) (ripe number)
   ripe-fits number lt =
-      mature_cell-fits netlist sound (cell number) m.time (cell_state m number) (machine.fits number lt)
+      mature_cell-fits netlist.parts (cell number) m.time (cell_state m number) (machine.fits number lt)
 
   ripe-signals : (number : ℕ) → HasSignals (ripe number)
   ripe-signals number = mature_cell-signals m.time (cell_state m number) (signals-at number)
