@@ -15,6 +15,7 @@ use Rattle.delay_rule.specs.Delay.{delay_list}
 use Rattle.delay_rule.specs.Inertia.{retargeted, same_signal}
 use Rattle.net_settle.specs.Charges.{signal_at, level, charge_left, charges_left, driven_signals, island_signals}
 use Rattle.net_settle.specs.Conditions.{IsCharge, IsChargeLevel, AreCharges}
+use Rattle.net_settle.specs.Conditions.{IsIsland as IsSettlingIsland}
 use Rattle.net_settle.proofs.Signals.{signal_is}
 use Rattle.net_settle.proofs.SettlingAgain.{length-left, length-signals, signals-are, left-are}
 use Rattle.flat_net.specs.declared.kinds.Patch.{Patch}
@@ -118,16 +119,12 @@ module _ (parts : Parts) (sound : IsSound parts) (number : ℕ) (lt : number < l
   abbrev island : Island
   island = island_at parts number
 
-  own-length : (r : Readings) (patch : Patch) → length (own_signals parts r patch island) ≡ length island.nets
-  own-length r patch = length-map-range_with_len _ 0 (length island.nets)
+  -- what is left of an island's charges
+  abbrev pub charges_after : List Signal → List Conduct → IslandState → List Signal
+  charges_after own on s = charges_left island.shape.charge (charges_of s.nets) (island_signals island.shape on own (charges_of s.nets))
 
-  module _ (patch : Patch) (r : Readings) (are : AreReadings r) (s : IslandState) (fits : FitsIsland parts number s) where
-    abbrev own : List Signal
-    own = own_signals parts r patch island
-
-    abbrev on : List Conduct
-    on = map r.conduct island.links
-
+  module _ (own : List Signal) (on : List Conduct) (s : IslandState) (fits : FitsIsland parts number s)
+      (left-charges : AreCharges island.shape.charge (charges_after own on s)) where
     abbrev charges : List Signal
     charges = charges_of s.nets
 
@@ -135,18 +132,7 @@ module _ (parts : Parts) (sound : IsSound parts) (number : ℕ) (lt : number < l
     signals = island_signals island.shape on own charges
 
     abbrev left : List Signal
-    left = charges_left island.shape.charge charges signals
-
-    own-are : All IsSignal own
-    own-are = own_signals-are parts r are patch island
-
-    -- the part in a pass done again
-    pub island_after-again : (now later : ℕ) →
-        island_after parts number patch later r (island_after parts number patch now r s) ≡ island_after parts number patch now r s
-    island_after-again now later =
-        next_island-again parts island now later own on s (sym (states-length parts sound number lt s fits))
-        (settling-island parts sound number lt s fits own (own-length r patch)) (wired_alone parts sound number lt) own-are
-        (charges-are parts sound number lt s fits)
+    left = charges_after own on s
 
     -- the charge that is left of a net
     left-at : (place : ℕ) → place < length island.nets →
@@ -156,16 +142,6 @@ module _ (parts : Parts) (sound : IsSound parts) (number : ℕ) (lt : number < l
         get_or-map-range_with_len _ 0 (length charges) place place undriven (let e = charges-length parts sound number lt s fits in omega arith) (omega arith)
         ∙ ap (λ c. charge_left c (signal_at charges place) (signal_at signals place)) (place-level parts sound number lt place within)
         ∙ ap (λ c. charge_left (part_at parts island place).charge c (signal_at signals place)) (charge-at parts sound number lt s fits place within)
-
-    left-charges : AreCharges island.shape.charge left
-    left-charges =
-        left-are island.shape on own charges (settling-island parts sound number lt s fits own (own-length r patch))
-        (wired_alone parts sound number lt) own-are (charges-are parts sound number lt s fits)
-
-    all-signals : All IsSignal signals
-    all-signals =
-        signals-are island.shape on own charges (settling-island parts sound number lt s fits own (own-length r patch))
-        (wired_alone parts sound number lt) own-are (charges-are parts sound number lt s fits)
 
     charged-at : (place : ℕ) → place < length island.nets → (part_at parts island place).charge ≢ 0 →
         IsCharge (part_at parts island place).charge (signal_at left place)
@@ -190,35 +166,86 @@ module _ (parts : Parts) (sound : IsSound parts) (number : ℕ) (lt : number < l
         (state_at s.nets place) (charged-at place within) (stays-at place within) (place-net parts sound number lt place within).charge
         (net-fits parts sound number lt s fits place within))
 
-    pub island_after-fits : (now : ℕ) → FitsIsland parts number (island_after parts number patch now r s)
+    pub next-island_fits : (now : ℕ) → FitsIsland parts number (next_island parts island now own on s)
     unfolding next_island
-    island_after-fits now =
+    next-island_fits now =
         zip-from (λ net state. FitsNet (net_at parts net) state) island.nets (after now) 0 no_state
         (sym (length-nets_after parts island now (driven_signals island.shape on own) signals left s.nets))
         (next-fits-at now)
 
+  module _ (own : List Signal) (on : List Conduct) (own-are : All IsSignal own) (long : length own ≡ length island.nets)
+      (s : IslandState) (fits : FitsIsland parts number s) where
+    settles : IsSettlingIsland island.shape (length own) (charges_of s.nets)
+    settles = settling-island parts sound number lt s fits own long
+
+    -- the part in a pass done again
+    pub next-again : (now later : ℕ) →
+        next_island parts island later own on (next_island parts island now own on s) ≡ next_island parts island now own on s
+    next-again now later =
+        next_island-again parts island now later own on s (sym (states-length parts sound number lt s fits))
+        settles (wired_alone parts sound number lt) own-are (charges-are parts sound number lt s fits)
+
+    pub charges_after-are : AreCharges island.shape.charge (charges_after own on s)
+    charges_after-are =
+        left-are island.shape on own (charges_of s.nets) settles (wired_alone parts sound number lt) own-are
+        (charges-are parts sound number lt s fits)
+
+    all-signals : All IsSignal (island_signals island.shape on own (charges_of s.nets))
+    all-signals =
+        signals-are island.shape on own (charges_of s.nets) settles (wired_alone parts sound number lt) own-are
+        (charges-are parts sound number lt s fits)
+
     -- a charge that is left is a signal
-    left-signal : (place : ℕ) → place < length island.nets → HasIslandSignals s → IsSignal (signal_at left place)
+    left-signal : (place : ℕ) → place < length island.nets → HasIslandSignals s → IsSignal (signal_at (charges_after own on s) place)
     left-signal place within has = by_level (nat_cases (part_at parts island place).charge)
       where
-        by_level : ((part_at parts island place).charge ≡ 0) ⊎ ((part_at parts island place).charge ≢ 0) → IsSignal (signal_at left place)
+        by_level : ((part_at parts island place).charge ≡ 0) ⊎ ((part_at parts island place).charge ≢ 0) → IsSignal (signal_at (charges_after own on s) place)
         by_level (inl none) =
-            subst IsSignal (sym (stays-at place within none))
+            subst IsSignal (sym (stays-at own on s fits charges_after-are place within none))
             (has place no_state (let e = states-length parts sound number lt s fits in omega arith)).charge
         by_level (inr some) =
-            charge-signal (part_at parts island place).charge (signal_at left place)
+            charge-signal (part_at parts island place).charge (signal_at (charges_after own on s) place)
             (level-most (part_at parts island place).kind (part_at parts island place).charge (place-net parts sound number lt place within).charge)
-            (charged-at place within some)
+            (charged-at own on s fits charges_after-are place within some)
 
-    pub island_after-signals : (now : ℕ) → HasIslandSignals s → HasIslandSignals (island_after parts number patch now r s)
+    pub next-island_signals : (now : ℕ) → HasIslandSignals s → HasIslandSignals (next_island parts island now own on s)
     unfolding next_island
-    island_after-signals now has place d inside =
+    next-island_signals now has place d inside =
         let driven = driven_signals island.shape on own in
+        let signals = island_signals island.shape on own (charges_of s.nets) in
+        let left = charges_after own on s in
         let within : place < length island.nets = (let e = length-nets_after parts island now driven signals left s.nets in omega arith) in
         subst HasNetSignals (sym (nets_after-at parts island now driven signals left s.nets place d within))
-        (next_net-signals (part_at parts island place) now (signal_at driven place) (signal_at signals place) (signal_at left place)
+        (next_net-signals (part_at parts island place) now (signal_at driven place) (signal_at signals place) (signal_at (charges_after own on s) place)
         (state_at s.nets place) (signal_is signals all-signals place) (left-signal place within has)
         (has place no_state (let e = states-length parts sound number lt s fits in omega arith)))
+
+module _ (parts : Parts) (sound : IsSound parts) (number : ℕ) (lt : number < length parts.islands)
+    (patch : Patch) (r : Readings) (are : AreReadings r) (s : IslandState) (fits : FitsIsland parts number s) where
+  own-are_signals : All IsSignal (own_signals parts r patch (island_at parts number))
+  own-are_signals = own_signals-are parts r are patch (island_at parts number)
+
+  own-length : length (own_signals parts r patch (island_at parts number)) ≡ length (island_at parts number).nets
+  own-length = length-map-range_with_len _ 0 (length (island_at parts number).nets)
+
+  pub island_after-again : (now later : ℕ) →
+      island_after parts number patch later r (island_after parts number patch now r s) ≡ island_after parts number patch now r s
+  island_after-again now later =
+      next-again parts sound number lt (own_signals parts r patch (island_at parts number)) (map r.conduct (island_at parts number).links)
+      own-are_signals own-length s fits now later
+
+  pub island_after-fits : (now : ℕ) → FitsIsland parts number (island_after parts number patch now r s)
+  island_after-fits now =
+      next-island_fits parts sound number lt (own_signals parts r patch (island_at parts number)) (map r.conduct (island_at parts number).links)
+      s fits
+      (charges_after-are parts sound number lt (own_signals parts r patch (island_at parts number)) (map r.conduct (island_at parts number).links)
+      own-are_signals own-length s fits)
+      now
+
+  pub island_after-signals : (now : ℕ) → HasIslandSignals s → HasIslandSignals (island_after parts number patch now r s)
+  island_after-signals now has =
+      next-island_signals parts sound number lt (own_signals parts r patch (island_at parts number)) (map r.conduct (island_at parts number).links)
+      own-are_signals own-length s fits now has
 
 -- a net at the start fits its part
 start_net-fits : (kind : NetKind) (level : ℕ) → HasCharge kind level → HasChargeOf kind level (net_start level)

@@ -1,3 +1,4 @@
+pub mod Filling
 pub mod PinLemmas
 pub mod GateLemmas
 pub mod PrimitiveLemmas
@@ -13,3 +14,5 @@ pub mod Facts
 pub mod Signals
 pub mod ElementsKept
 pub mod IslandsKept
+pub mod CellsKept
+pub mod Owning

@@ -137,7 +137,7 @@ drive_at-is Whole pin s is = is
 drive_at-is (NetStuck net v) pin s is = is
 drive_at-is (InStuck input v) pin s is = is
 
-own_driver-is : (kind : NetKind) → IsSignal (own_driver kind)
+pub own_driver-is : (kind : NetKind) → IsSignal (own_driver kind)
 own_driver-is Tri0 = record { low = grind (arith, ints); order = grind (arith, ints); high = grind (arith, ints) }
 own_driver-is Tri1 = record { low = grind (arith, ints); order = grind (arith, ints); high = grind (arith, ints) }
 own_driver-is Supply0 = record { low = grind (arith, ints); order = grind (arith, ints); high = grind (arith, ints) }

@@ -1,8 +1,9 @@
 -- For the bodies and their proofs alone: the own signals of an island, joined drive by drive.
-use Rattle.std.specs.Prelude.{ℕ, List, ◌∷◌, length, map, slice_index_or}
+use Rattle.std.specs.Prelude.{◌≡◌, ℕ, ◌<◌, List, ◌∷◌, length, map, slice_index_or}
 use Rattle.std.specs.List.{range_with_len}
+use Rattle.level_range.specs.declared.range.Kind.TheVariants.{Plain}
 use Rattle.level_range.specs.Signal.{Signal}
-use Rattle.level_range.specs.Combine.{combination_of, join_of}
+use Rattle.level_range.specs.Combine.{combination_of}
 use Rattle.net_settle.specs.Charges.{signal_at}
 use Rattle.flat_net.specs.declared.kinds.Patch.{Patch}
 use Rattle.flat_net.specs.declared.parts.Drive.{Drive}
@@ -11,12 +12,6 @@ use Rattle.flat_net.specs.declared.parts.Parts.{Parts}
 use Rattle.flat_net.specs.Islands.{combining}
 use Rattle.cell_step.specs.Readings.{Readings}
 use Rattle.cell_step.specs.Islands.{own_driver, drives_at, net_stuck, unless_stuck, part_at}
-
--- the signal of a net's place with the first drivers alone: its own and the input
-abbrev pub first_signal : Parts → Readings → Island → ℕ → Signal
-first_signal parts r island place =
-    join_of (combining (part_at parts island place).kind) (own_driver (part_at parts island place).kind)
-    (r.input (slice_index_or island.nets place 0))
 
 -- the signal of a place with some of the drives
 abbrev pub place_signal : Parts → Readings → Island → List Drive → ℕ → Signal
@@ -29,7 +24,12 @@ abbrev pub driver_signals : Parts → Readings → Island → List Drive → Lis
 driver_signals parts r island drives = map (place_signal parts r island drives) (range_with_len 0 (length island.nets))
 
 -- signals with those of stuck nets in their places
-abbrev pub stick_nets : Patch → Island → List Signal → List Signal
-stick_nets patch island signals =
-    map (λ place. unless_stuck (net_stuck patch (slice_index_or island.nets place 0)) (signal_at signals place))
-    (range_with_len 0 (length island.nets))
+abbrev pub stick_nets : Patch → List ℕ → List Signal → List Signal
+stick_nets patch nets signals =
+    map (λ place. unless_stuck (net_stuck patch (slice_index_or nets place 0)) (signal_at signals place))
+    (range_with_len 0 (length nets))
+
+-- each kind of an island's shape is how the drivers of the net at its place are combined
+abbrev pub HasKinds : Parts → Island → Type 0
+HasKinds parts island =
+    (place : ℕ) → place < length island.nets → slice_index_or island.shape.kinds place Plain ≡ combining (part_at parts island place).kind

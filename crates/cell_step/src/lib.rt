@@ -2,10 +2,14 @@
 #![tactic(auto)]
 
 mod bench;
+mod changes;
 mod copies;
 mod elements;
 mod gates;
+mod island_cells;
+mod islands;
 mod lists;
+mod nets;
 mod outputs;
 mod pins;
 mod primitives;
@@ -15,8 +19,10 @@ mod steps;
 mod view;
 
 pub use bench::Bench;
+pub use changes::mature;
 pub use copies::{copy_state, same_state};
 pub use elements::element_step;
+pub use island_cells::{island_step, start_island};
 pub use lists::NetStateList;
 pub use outputs::{conduct_of, drive_of};
 pub use starts::start_element;

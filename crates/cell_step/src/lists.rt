@@ -40,6 +40,13 @@ impl NetStateList {
         self.states.as_slice()
     }
 
+    /// How many states there are.
+    pub fn len(&self) -> usize
+        ensures { result ≡ length self.now }
+    {
+        self.states.len()
+    }
+
     /// The state at a place.
     pub fn at(&self, place: usize) -> NetState
         requires { place < length self.now }
