@@ -11,7 +11,9 @@ mod netlists;
 mod rows;
 
 use crate::pins::first_input;
-use crate::{ElementState, Steps, View, conduct_of, drive_of, element_step, start_element};
+use crate::{
+    CellState, ElementState, Steps, View, conduct_of, drive_of, element_step, mature, start_element,
+};
 use flat_net::{Element, ElementKind, Flat, Patch, sound};
 use level_range::{Conduct, Range};
 use netlists::parts_of;
@@ -95,24 +97,16 @@ fn has_output(flat: &Flat, pin: u32) -> bool
 }
 
 /// The element when the changes of this tick have taken effect.
-fn matured(state: ElementState, now: u64) -> ElementState
-    ensures { (parts : Parts) (number : ℕ) → FitsElement parts number state
+fn matured(state: &ElementState, now: u64) -> ElementState
+    ensures { (parts : Parts) (number : ℕ) → FitsElement parts number state.now
         → FitsElement parts number result }
 {
-    let mut after = state;
-    if let Some(change) = state.due
-        && change.at <= now
-    {
-        after.out = change.value;
-        after.due = None;
+    let mut cell = CellState::Element(*state);
+    mature(&mut cell, now);
+    match &cell {
+        CellState::Element(after) => *after,
+        CellState::Island(_) => *state,
     }
-    if let Some(change) = state.switch_due
-        && change.at <= now
-    {
-        after.on = change.value;
-        after.switch_due = None;
-    }
-    after
 }
 
 /// The tick of the change that is pending.
@@ -163,13 +157,13 @@ fn step<L: Ledger>(
     flat: &Flat,
     case: &Case,
     pass: &Pass,
-    state: ElementState,
+    state: &ElementState,
     steps: &mut Steps<L>,
     n: usize,
 ) -> Result<ElementState, AllocError>
     requires element { 0 < length flat.now.parts.elements }
     requires patch { Fits flat.now.parts (Cell.Element 0) case.now.patch }
-    requires state { FitsElement flat.now.parts 0 state }
+    requires state { FitsElement flat.now.parts 0 state.now }
     ensures { IfOk result (FitsElement flat.now.parts 0) }
 {
     assert!(rt; pass.now <= 1 << 48);
@@ -181,7 +175,7 @@ fn step<L: Ledger>(
     let mut state = matured(state, pass.now);
     element_step(flat, 0, case.patch, &mut state, &view, pass.now, steps);
     assert_eq!(rt; pending(&state), pass.pending, "case {n}");
-    Ok(matured(state, pass.now))
+    Ok(matured(&state, pass.now))
 }
 
 /// The passes of an element.
@@ -200,7 +194,7 @@ fn walk<L: Ledger>(
     let mut state = start_element(&flat, 0, case.patch);
     gives(rt, &flat, case, &state, case.start, n);
     for pass in case.passes {
-        state = step(rt, alloc, &flat, case, pass, state, steps, n)?;
+        state = step(rt, alloc, &flat, case, pass, &state, steps, n)?;
         gives(rt, &flat, case, &state, pass.output, n);
     }
     Ok(())
