@@ -178,7 +178,28 @@ fn step<L: Ledger>(
     Ok(matured(&state, pass.now))
 }
 
-/// The passes of an element.
+/// The start of the element, and its passes.
+fn passes<L: Ledger>(
+    rt: &impl Abort,
+    alloc: Global,
+    flat: &Flat,
+    case: &Case,
+    steps: &mut Steps<L>,
+    n: usize,
+) -> Result<(), Fail>
+    requires element { 0 < length flat.now.parts.elements }
+    requires patch { Fits flat.now.parts (Cell.Element 0) case.now.patch }
+{
+    let mut state = start_element(flat, 0, case.patch);
+    gives(rt, flat, case, &state, case.start, n);
+    for pass in case.passes {
+        state = step(rt, alloc, flat, case, pass, &state, steps, n)?;
+        gives(rt, flat, case, &state, pass.output, n);
+    }
+    Ok(())
+}
+
+/// The passes of a case in its netlist.
 fn walk<L: Ledger>(
     rt: &impl Abort,
     alloc: Global,
@@ -191,13 +212,7 @@ fn walk<L: Ledger>(
     let flat = Flat::new(alloc, parts)?;
     assert!(rt; flat.element_count() > 0);
     assert!(rt; fits(&flat, case.patch), "case {n}");
-    let mut state = start_element(&flat, 0, case.patch);
-    gives(rt, &flat, case, &state, case.start, n);
-    for pass in case.passes {
-        state = step(rt, alloc, &flat, case, pass, &state, steps, n)?;
-        gives(rt, &flat, case, &state, pass.output, n);
-    }
-    Ok(())
+    passes(rt, alloc, &flat, case, steps, n)
 }
 
 /// The passes of all cases.
@@ -218,12 +233,17 @@ fn walk_all<L: Ledger>(
     Ok(())
 }
 
-#[test]
-fn each_kind_of_element_with_each_patch(rt: HostRuntime) -> Result<(), Fail> {
-    walk_all::<Brand>(&rt, rt.alloc(), Blank::new(1), kinds())
+/// The passes of all cases, with a counter of steps.
+fn count_steps(rt: &impl Abort, alloc: Global, cases: &[Case]) -> Result<(), Fail> {
+    walk_all::<Brand>(rt, alloc, Blank::new(1), cases)
 }
 
 #[test]
-fn delays_and_order_of_inputs(rt: HostRuntime) -> Result<(), Fail> {
-    walk_all::<Brand>(&rt, rt.alloc(), Blank::new(1), runs())
+fn each_kind_of_element_with_each_patch(rt: HostRuntime) -> Result<(), Fail> {
+    count_steps(&rt, rt.alloc(), kinds())
+}
+
+#[test]
+fn delays_and_the_order_of_inputs(rt: HostRuntime) -> Result<(), Fail> {
+    count_steps(&rt, rt.alloc(), runs())
 }
