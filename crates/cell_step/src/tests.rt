@@ -7,6 +7,7 @@ ghost use Rattle.flat_net.specs.declared.parts.Parts.{Parts};
 ghost use Rattle.cell_step.specs.Readings.{IsOutput};
 ghost use Rattle.cell_step.specs.Fitting.{FitsElement};
 
+mod copies;
 mod netlists;
 mod rows;
 
