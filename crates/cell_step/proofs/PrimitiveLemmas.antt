@@ -73,10 +73,19 @@ take_known r patch e rest values count is are =
     subst (All (λ v. v ≢ Z)) (sym (take_inputs r patch e rest values count is are)) (known_inputs (input_signals r patch e))
 
 -- the value of a primitive by its kind
-pub sequential_value : (udp : Primitive) (s : ElementState) (ins : List Logic) → udp.sequential ≡ true →
+sequential_value : (udp : Primitive) (s : ElementState) (ins : List Logic) → udp.sequential ≡ true →
     primitive_value udp s ins ≡ state_after udp.rows [] (take udp.inputs s.seen) ins s.state
 unfolding primitive_value
 sequential_value udp s ins e = ap (λ b. cond b (state_after udp.rows [] (take udp.inputs s.seen) ins s.state) (level_value udp.rows ins)) e
+
+-- the value of a sequential primitive, by lists of which the first elements are its inputs
+pub sequential_value_is : (udp : Primitive) (s : ElementState) (ins values : List Logic) (count : ℕ) (value : Logic) →
+    udp.sequential ≡ true → count ≡ udp.inputs → take count values ≡ ins →
+    value ≡ state_after udp.rows [] (take count s.seen) (take count values) s.state → value ≡ primitive_value udp s ins
+sequential_value_is udp s ins values count value sequential width are is =
+    is ∙ ap (λ n. state_after udp.rows [] (take n s.seen) (take count values) s.state) width
+    ∙ ap (λ new. state_after udp.rows [] (take udp.inputs s.seen) new s.state) are
+    ∙ sym (sequential_value udp s ins sequential)
 
 pub combinational_value : (udp : Primitive) (s : ElementState) (ins : List Logic) → udp.sequential ≡ false →
     primitive_value udp s ins ≡ level_value udp.rows ins

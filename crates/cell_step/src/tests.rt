@@ -7,11 +7,14 @@ ghost use Rattle.flat_net.specs.declared.parts.Parts.{Parts};
 ghost use Rattle.cell_step.specs.Readings.{IsOutput};
 ghost use Rattle.cell_step.specs.Fitting.{FitsElement};
 
+mod copies;
 mod netlists;
 mod rows;
 
 use crate::pins::first_input;
-use crate::{ElementState, Steps, View, conduct_of, drive_of, element_step, start_element};
+use crate::{
+    CellState, ElementState, Steps, View, conduct_of, drive_of, element_step, mature, start_element,
+};
 use flat_net::{Element, ElementKind, Flat, Patch, sound};
 use level_range::{Conduct, Range};
 use netlists::parts_of;
@@ -95,24 +98,16 @@ fn has_output(flat: &Flat, pin: u32) -> bool
 }
 
 /// The element when the changes of this tick have taken effect.
-fn matured(state: ElementState, now: u64) -> ElementState
-    ensures { (parts : Parts) (number : ℕ) → FitsElement parts number state
+fn matured(state: &ElementState, now: u64) -> ElementState
+    ensures { (parts : Parts) (number : ℕ) → FitsElement parts number state.now
         → FitsElement parts number result }
 {
-    let mut after = state;
-    if let Some(change) = state.due
-        && change.at <= now
-    {
-        after.out = change.value;
-        after.due = None;
+    let mut cell = CellState::Element(*state);
+    mature(&mut cell, now);
+    match &cell {
+        CellState::Element(after) => *after,
+        CellState::Island(_) => *state,
     }
-    if let Some(change) = state.switch_due
-        && change.at <= now
-    {
-        after.on = change.value;
-        after.switch_due = None;
-    }
-    after
 }
 
 /// The tick of the change that is pending.
@@ -163,13 +158,13 @@ fn step<L: Ledger>(
     flat: &Flat,
     case: &Case,
     pass: &Pass,
-    state: ElementState,
+    state: &ElementState,
     steps: &mut Steps<L>,
     n: usize,
 ) -> Result<ElementState, AllocError>
     requires element { 0 < length flat.now.parts.elements }
     requires patch { Fits flat.now.parts (Cell.Element 0) case.now.patch }
-    requires state { FitsElement flat.now.parts 0 state }
+    requires state { FitsElement flat.now.parts 0 state.now }
     ensures { IfOk result (FitsElement flat.now.parts 0) }
 {
     assert!(rt; pass.now <= 1 << 48);
@@ -181,10 +176,31 @@ fn step<L: Ledger>(
     let mut state = matured(state, pass.now);
     element_step(flat, 0, case.patch, &mut state, &view, pass.now, steps);
     assert_eq!(rt; pending(&state), pass.pending, "case {n}");
-    Ok(matured(state, pass.now))
+    Ok(matured(&state, pass.now))
 }
 
-/// The passes of an element.
+/// The start of the element, and its passes.
+fn passes<L: Ledger>(
+    rt: &impl Abort,
+    alloc: Global,
+    flat: &Flat,
+    case: &Case,
+    steps: &mut Steps<L>,
+    n: usize,
+) -> Result<(), Fail>
+    requires element { 0 < length flat.now.parts.elements }
+    requires patch { Fits flat.now.parts (Cell.Element 0) case.now.patch }
+{
+    let mut state = start_element(flat, 0, case.patch);
+    gives(rt, flat, case, &state, case.start, n);
+    for pass in case.passes {
+        state = step(rt, alloc, flat, case, pass, &state, steps, n)?;
+        gives(rt, flat, case, &state, pass.output, n);
+    }
+    Ok(())
+}
+
+/// The passes of a case in its netlist.
 fn walk<L: Ledger>(
     rt: &impl Abort,
     alloc: Global,
@@ -197,13 +213,7 @@ fn walk<L: Ledger>(
     let flat = Flat::new(alloc, parts)?;
     assert!(rt; flat.element_count() > 0);
     assert!(rt; fits(&flat, case.patch), "case {n}");
-    let mut state = start_element(&flat, 0, case.patch);
-    gives(rt, &flat, case, &state, case.start, n);
-    for pass in case.passes {
-        state = step(rt, alloc, &flat, case, pass, state, steps, n)?;
-        gives(rt, &flat, case, &state, pass.output, n);
-    }
-    Ok(())
+    passes(rt, alloc, &flat, case, steps, n)
 }
 
 /// The passes of all cases.
@@ -224,12 +234,17 @@ fn walk_all<L: Ledger>(
     Ok(())
 }
 
-#[test]
-fn each_kind_of_element_with_each_patch(rt: HostRuntime) -> Result<(), Fail> {
-    walk_all::<Brand>(&rt, rt.alloc(), Blank::new(1), kinds())
+/// The passes of all cases, with a counter of steps.
+fn count_steps(rt: &impl Abort, alloc: Global, cases: &[Case]) -> Result<(), Fail> {
+    walk_all::<Brand>(rt, alloc, Blank::new(1), cases)
 }
 
 #[test]
-fn delays_and_order_of_inputs(rt: HostRuntime) -> Result<(), Fail> {
-    walk_all::<Brand>(&rt, rt.alloc(), Blank::new(1), runs())
+fn each_kind_of_element_with_each_patch(rt: HostRuntime) -> Result<(), Fail> {
+    count_steps(&rt, rt.alloc(), kinds())
+}
+
+#[test]
+fn delays_and_the_order_of_inputs(rt: HostRuntime) -> Result<(), Fail> {
+    count_steps(&rt, rt.alloc(), runs())
 }
