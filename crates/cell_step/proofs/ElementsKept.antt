@@ -90,9 +90,10 @@ module _ (udp : Primitive) (ins : List Logic) (s : ElementState) where
   remember-known : length ins ≡ udp.inputs → All (λ v. v ≢ value.Z) ins → IsKnown udp s → IsKnown udp (remember udp ins s)
   unfolding remember
   remember-known width are was e =
-      subst (λ (x : ElementState). (x.state ≢ value.Z) × All (λ v. v ≢ value.Z) (take udp.inputs x.seen)) (sym same)
-      (value-known e (was e).0,
-      subst (All (λ v. v ≢ value.Z)) (sym (take_front udp.inputs ins (drop (length ins) s.seen) width)) are)
+      subst (λ (x : ElementState). (x.state ≢ value.Z) × All (λ v. v ≢ value.Z) (take udp.inputs x.seen)) (sym same) (
+        value-known e (was e).0,
+        subst (All (λ v. v ≢ value.Z)) (sym (take_front udp.inputs ins (drop (length ins) s.seen) width)) are,
+      )
     where
       same : cond udp.sequential (record s { state = primitive_value udp s ins; seen = ins ++ drop (length ins) s.seen }) s
           ≡ record s { state = primitive_value udp s ins; seen = ins ++ drop (length ins) s.seen }
@@ -101,9 +102,10 @@ module _ (udp : Primitive) (ins : List Logic) (s : ElementState) where
 -- a state fits by its remembered parts
 fits-like : (parts : Parts) (kind : ElementKind) (s t : ElementState) → s.state ≡ t.state → s.seen ≡ t.seen → FitsKind parts kind s → FitsKind parts kind t
 fits-like parts (Udp number) s t state seen fits = λ e.
-    let known_parts = fits e in
-    (subst (λ v. v ≢ value.Z) state known_parts.0,
-    subst (λ l. All (λ v. v ≢ value.Z) (take (primitive_at parts number).inputs l)) seen known_parts.1)
+    let known_parts = fits e in (
+      subst (λ v. v ≢ value.Z) state known_parts.0,
+      subst (λ l. All (λ v. v ≢ value.Z) (take (primitive_at parts number).inputs l)) seen known_parts.1,
+    )
 fits-like parts (Fold kind) s t state seen fits = cc
 fits-like parts (Enable kind) s t state seen fits = cc
 fits-like parts (Mos on_one resistive) s t state seen fits = cc
@@ -128,9 +130,10 @@ start-fits parts number patch kind is accepted =
   where
     by_kind : (kind : ElementKind) → (element_start parts number patch).state ≡ start_state parts kind → HasAccepted parts kind →
         FitsKind parts kind (element_start parts number patch)
-    by_kind (Udp k) state accepted = λ e.
-        (subst (λ v. v ≢ value.Z) (sym state) (start-known (primitive_at parts k) accepted),
-        All-take (λ v. v ≢ value.Z) (primitive_at parts k).inputs (replicate 10 value.X) (All-replicate (λ v. v ≢ value.Z) 10 value.X (λ e. cc)))
+    by_kind (Udp k) state accepted = λ e. (
+      subst (λ v. v ≢ value.Z) (sym state) (start-known (primitive_at parts k) accepted),
+      All-take (λ v. v ≢ value.Z) (primitive_at parts k).inputs (replicate 10 value.X) (All-replicate (λ v. v ≢ value.Z) 10 value.X (λ e. cc)),
+    )
     by_kind (Fold kind) state accepted = cc
     by_kind (Enable kind) state accepted = cc
     by_kind (Mos on_one resistive) state accepted = cc
@@ -179,10 +182,11 @@ module _ (parts : Parts) (ins : List Signal) (s : ElementState) where
   memory-fits (Udp number) width few ten fits =
       let udp = primitive_at parts number in
       let long = length-map ins (λ v. known (reads v)) in
-      let most = few.inputs.1 in
-      (remember-seen udp (primitive_inputs ins) s (omega arith) ∙ ten,
-      remember-known udp (primitive_inputs ins) s (long ∙ width)
-      (All-map (λ v. v ≢ value.Z) (λ v. known (reads v)) ins (λ k d lt. known-some (reads (slice_index_or ins k d)))) fits)
+      let most = few.inputs.1 in (
+        remember-seen udp (primitive_inputs ins) s (omega arith) ∙ ten,
+        remember-known udp (primitive_inputs ins) s (long ∙ width)
+            (All-map (λ v. v ≢ value.Z) (λ v. known (reads v)) ins (λ k d lt. known-some (reads (slice_index_or ins k d)))) fits,
+      )
   memory-fits (Fold kind) width few ten fits = (ten, fits)
   memory-fits (Enable kind) width few ten fits = (ten, fits)
   memory-fits (Mos on_one resistive) width few ten fits = (ten, fits)

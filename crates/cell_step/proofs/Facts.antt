@@ -162,13 +162,13 @@ module _ (parts : Parts) (sound : IsSound parts) where
     pub place-kind : (place : ℕ) → place < length island.nets → slice_index_or island.shape.kinds place Plain ≡ combining (part_at parts island place).kind
     place-kind place within =
         let found = some_of (λ (part : NetPart). slice_index_or island.shape.kinds place Plain ≡ combining part.kind) _
-            (zip-at _ island.nets island.shape.kinds place 0 Plain island-is.kinds within) in
+        (zip-at _ island.nets island.shape.kinds place 0 Plain island-is.kinds within) in
         found.2 ∙ ap (λ (part : NetPart). combining part.kind) (sym (get_or_from_slice_get parts.nets _ found.0 no_net found.1))
 
     pub place-level : (place : ℕ) → place < length island.nets → slice_index_or island.shape.charge place 0 ≡ (part_at parts island place).charge
     place-level place within =
         let found = some_of (λ (part : NetPart). slice_index_or island.shape.charge place 0 ≡ part.charge) _
-            (zip-at _ island.nets island.shape.charge place 0 0 island-is.charge within) in
+        (zip-at _ island.nets island.shape.charge place 0 0 island-is.charge within) in
         found.2 ∙ ap (λ (part : NetPart). part.charge) (sym (get_or_from_slice_get parts.nets _ found.0 no_net found.1))
 
     link-within : (place : ℕ) (d : Link) → place < length island.shape.links →
@@ -176,10 +176,10 @@ module _ (parts : Parts) (sound : IsSound parts) where
     link-within place d within =
         let link = slice_index_or island.shape.links place d in
         let outer = some_of (λ (e : Element). IsSomeAnd e.ends (λ ends.
-            (slice_get island.nets link.a ≡ Some ends.0) × (slice_get island.nets link.b ≡ Some ends.1))) _
-            (zip-at (IsLink parts.elements island.nets) island.links island.shape.links place 0 d island-is.links (let e = links-length in omega arith)) in
+        (slice_get island.nets link.a ≡ Some ends.0) × (slice_get island.nets link.b ≡ Some ends.1))) _
+        (zip-at (IsLink parts.elements island.nets) island.links island.shape.links place 0 d island-is.links (let e = links-length in omega arith)) in
         let inner = some_of (λ (ends : ℕ × ℕ).
-            (slice_get island.nets link.a ≡ Some ends.0) × (slice_get island.nets link.b ≡ Some ends.1)) _ outer.2 in
+        (slice_get island.nets link.a ≡ Some ends.0) × (slice_get island.nets link.b ≡ Some ends.1)) _ outer.2 in
         (slice_get_within island.nets link.a _ inner.2.0, slice_get_within island.nets link.b _ inner.2.1)
 
     pub ends-within : EndsWithin (length island.nets) island.shape.links
@@ -198,7 +198,7 @@ module _ (parts : Parts) (sound : IsSound parts) where
     alone place within wired =
         let found = some_of (λ (i : Island). (length i.nets ≡ 1) × (i.links ≡ [])) _ ((place-net place within).alone wired) in
         let same : found.0 ≡ island =
-            sym (get_or_from_slice_get parts.islands _ found.0 no_island found.1) ∙ ap (λ n. get_or parts.islands n no_island) (place-island place within) in
+        sym (get_or_from_slice_get parts.islands _ found.0 no_island found.1) ∙ ap (λ n. get_or parts.islands n no_island) (place-island place within) in
         subst (λ (i : Island). (length i.nets ≡ 1) × (i.links ≡ [])) same found.2
 
     pub wired_alone : WiredAlone island.shape
@@ -257,11 +257,12 @@ module _ (parts : Parts) (sound : IsSound parts) (number : ℕ) (lt : number < l
       let island = island_at parts number in
       let drive = slice_index_or island.drives place d in
       let outer = some_of (λ (e : Element). IsSomeAnd (slice_get e.outs drive.pin) (λ net. slice_get island.nets drive.place ≡ Some net)) _
-          ((island-is parts sound number lt).drives place d within) in
-      let inner = some_of (λ net. slice_get island.nets drive.place ≡ Some net) _ outer.2 in
-      (and_some (λ (e : Element). drive.pin < length e.outs) (slice_get parts.elements drive.element) outer.0 outer.1
-      (slice_get_within outer.0.outs drive.pin inner.0 inner.1),
-      slice_get_within island.nets drive.place inner.0 inner.2)
+      ((island-is parts sound number lt).drives place d within) in
+      let inner = some_of (λ net. slice_get island.nets drive.place ≡ Some net) _ outer.2 in (
+        and_some (λ (e : Element). drive.pin < length e.outs) (slice_get parts.elements drive.element) outer.0 outer.1
+            (slice_get_within outer.0.outs drive.pin inner.0 inner.1),
+        slice_get_within island.nets drive.place inner.0 inner.2,
+      )
 
   link-is : (place d : ℕ) → place < length (island_at parts number).links → IsSwitch parts (slice_index_or (island_at parts number).links place d)
   link-is place d within =
@@ -269,10 +270,10 @@ module _ (parts : Parts) (sound : IsSound parts) (number : ℕ) (lt : number < l
       let link = slice_index_or island.shape.links place (record { a = 0; b = 0; resistive = false }) in
       let element = slice_index_or island.links place d in
       let found = some_of (λ (e : Element). IsSomeAnd e.ends (λ ends.
-          (slice_get island.nets link.a ≡ Some ends.0) × (slice_get island.nets link.b ≡ Some ends.1))) _
-          (zip-at (IsLink parts.elements island.nets) island.links island.shape.links place d _ (island-is parts sound number lt).links within) in
+      (slice_get island.nets link.a ≡ Some ends.0) × (slice_get island.nets link.b ≡ Some ends.1))) _
+      (zip-at (IsLink parts.elements island.nets) island.links island.shape.links place d _ (island-is parts sound number lt).links within) in
       let ends = some_of (λ (ends : ℕ × ℕ).
-          (slice_get island.nets link.a ≡ Some ends.0) × (slice_get island.nets link.b ≡ Some ends.1)) _ found.2 in
+      (slice_get island.nets link.a ≡ Some ends.0) × (slice_get island.nets link.b ≡ Some ends.1)) _ found.2 in
       let is = sound.cells.elements element found.0 (slice_get_within parts.elements element found.0 found.1) in
       let same = get_or_from_slice_get parts.elements element found.0 found.0 found.1 in
       and_some (λ (e : Element). IsTrue (joins_ends e.kind)) (slice_get parts.elements element) found.0 found.1

@@ -30,13 +30,7 @@ fn mature_due<V: Copy>(now: u64, pending: Option<Pending<V>>) -> Option<Pending<
     ensures { result ≡ mature_due_of now pending }
 {
     match pending {
-        Some(change) => {
-            if change.at <= now {
-                None
-            } else {
-                Some(change)
-            }
-        }
+        Some(change) => { if change.at <= now { None } else { Some(change) } }
         None => None,
     }
 }

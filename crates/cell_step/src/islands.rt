@@ -9,12 +9,12 @@ ghost use Rattle.net_settle.specs.Conditions.{AreCharges};
 ghost use Rattle.cell_step.specs.Owns.{driver_signals, stick_nets, HasKinds, CanSettle, left_charges};
 
 use crate::lists::NetStateList;
-use crate::states::IslandState;
 use crate::nets::next_net;
+use crate::states::IslandState;
 use crate::view::View;
 use flat_net::{Drive, Flat, Island, NetKind, Patch};
-use net_settle::{Scratch, settle};
 use level_range::{Conduct, Kind, Logic, Range, join, span};
+use net_settle::{Scratch, settle};
 
 /// How the drivers of a net are combined.
 fn combining(kind: NetKind) -> Kind
@@ -228,15 +228,7 @@ fn settle_nets(
 {
     read_charges(charges, &state.nets);
     settle(&island.shape, own, on, charges, driven, signals, scratch);
-    step_nets(
-        &mut state.nets,
-        flat,
-        island,
-        now,
-        driven,
-        signals,
-        charges,
-    );
+    step_nets(&mut state.nets, flat, island, now, driven, signals, charges);
 }
 
 /// An island after its part in a pass, in lists that are as long as it has nets, or links.

@@ -123,11 +123,7 @@ fn start_net(level: u8) -> NetState
 }
 
 /// A list of so many elements.
-fn elements<T: Copy + Drop>(
-    alloc: Global,
-    element: T,
-    count: usize,
-) -> Result<Vec<T>, AllocError>
+fn elements<T: Copy + Drop>(alloc: Global, element: T, count: usize) -> Result<Vec<T>, AllocError>
     ensures { IfOk result (λ list. length list.items ≡ count) }
 {
     vec![in alloc; element; count]

@@ -8,6 +8,8 @@ ghost use Rattle.cell_step.specs.Readings.{IsOutput};
 ghost use Rattle.cell_step.specs.Fitting.{FitsElement};
 
 mod copies;
+mod island_rows;
+mod islands;
 mod netlists;
 mod rows;
 

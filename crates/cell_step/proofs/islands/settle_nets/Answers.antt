@@ -19,8 +19,8 @@ returns-clause-state c =
     let charges = charges_of states in
     let signals = c.settle.ensures.signals ∙ ap (island_signals shape on own) c.read_charges.ensures in
     let left = c.settle.ensures.charges
-        ∙ ap (λ l. charges_left shape.charge l c.settle.new.out) c.read_charges.ensures
-        ∙ ap (charges_left shape.charge charges) signals in
+    ∙ ap (λ l. charges_left shape.charge l c.settle.new.out) c.read_charges.ensures
+    ∙ ap (charges_left shape.charge charges) signals in
     ap (λ l. let i : IslandState = record { nets = l } in i)
     (c.step_nets.ensures
     ∙ ap (λ l. nets_after parts island c.args.now l c.settle.new.out c.settle.new.charges states) c.settle.ensures.driven

@@ -26,19 +26,19 @@ loop-place-preserved c =
     let parts = c.args.flat.now.parts in
     let island = c.args.island.now in
     let f = λ (place : ℕ). next_net (part_at parts island place) c.args.now (signal_at c.args.driven.now place)
-        (signal_at c.args.signals.now place) (signal_at c.args.charges.now place) (state_at c.args.nets.now place) in
+    (signal_at c.args.signals.now place) (signal_at c.args.charges.now place) (state_at c.args.nets.now place) in
     let k = c.loop-place.place in
     let within : k < length island.nets = (let t = c.loop-place-test.true in let e = ap length c.as_slice-numbers.ensures in omega arith) in
     let part = sym (get_or_from_slice_get parts.nets (get_or c.as_slice-numbers.result.now k 0) c.net-part.result.now no_net c.net-part.ensures)
-        ∙ ap (λ (l : List ℕ). net_at parts (get_or l k 0)) c.as_slice-numbers.ensures in
+    ∙ ap (λ (l : List ℕ). net_at parts (get_or l k 0)) c.as_slice-numbers.ensures in
     let state = sym (get_or_from_slice_get c.loop-place.nets k c.at-state.result no_state c.at-state.ensures)
-        ∙ c.loop-place.invariant.back k (omega arith) in
+    ∙ c.loop-place.invariant.back k (omega arith) in
     let is = c.next_net-next.ensures
-        ∙ same-next _ _ c.args.now _ _ _ _ _ _ _ _ part
-        (read-at c.args.driven.now k _ (let e = c.requires.driven in omega arith) c.index-driven-place.is)
-        (read-at c.args.signals.now k _ (let e = c.requires.signals in omega arith) c.index-signals-place.is)
-        (read-at c.args.charges.now k _ (let e = c.requires.charges in omega arith) c.index-charges-place.is)
-        state in
+    ∙ same-next _ _ c.args.now _ _ _ _ _ _ _ _ part
+    (read-at c.args.driven.now k _ (let e = c.requires.driven in omega arith) c.index-driven-place.is)
+    (read-at c.args.signals.now k _ (let e = c.requires.signals in omega arith) c.index-signals-place.is)
+    (read-at c.args.charges.now k _ (let e = c.requires.charges in omega arith) c.index-charges-place.is)
+    state in
     subst (λ l. IsFilled f no_state c.args.nets.now l (k + 1)) (sym c.set.ensures)
     (filled-more f no_state c.args.nets.now c.loop-place.nets k c.next_net-next.result (let s = c.requires.size in omega arith) is
     c.loop-place.invariant)

@@ -45,7 +45,7 @@ pub returns-then-sequential-clause-known : goal.returns-then-sequential-clause-k
 returns-then-sequential-clause-known g c is = (
   c.state_after-value.ensures.known,
   take_known (g.V.View.readings c.args.view.now) c.args.patch c.args.e.now _ c.read_inputs-values.result c.args.udp.now.inputs
-  c.requires.inputs c.read_inputs-values.ensures,
+      c.requires.inputs c.read_inputs-values.ensures,
 )
 
 pub returns-else-sequential-clause-value : goal.returns-else-sequential-clause-value
