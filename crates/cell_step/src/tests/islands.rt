@@ -5,7 +5,7 @@ ghost use Rattle.level_range.specs.Signal.{undriven};
 ghost use Rattle.flat_net.specs.Patches.{Fits, FitsIsland as FitsPatch};
 ghost use Rattle.cell_step.specs.Readings.{island_at};
 ghost use Rattle.cell_step.specs.Fitting.{FitsIsland, FitsCell};
-ghost use Rattle.cell_step.specs.declared.states.CellState.TheVariants.{Island};
+ghost use Rattle.cell_step.specs.declared.states.CellState.{CellState};
 ghost use Rattle.flat_net.specs.declared.parts.Parts.{Parts};
 ghost use Rattle.level_range.specs.declared.range.Conduct.{Conduct};
 ghost use Rattle.flat_net.specs.declared.kinds.Cell.{Cell};
@@ -257,8 +257,8 @@ fn is_as(rt: &impl Abort, state: NetState, pass: &IslandPass, place: usize, n: u
 
 /// The island when what is due at this tick has taken effect.
 fn matured(rt: &impl Abort, state: IslandState, now: u64) -> IslandState
-    ensures { (parts : Parts) (cell : Cell) → FitsCell parts cell (Island state)
-        → FitsCell parts cell (Island result) }
+    ensures { (parts : Parts) (cell : Cell) → FitsCell parts cell (CellState.Island state)
+        → FitsCell parts cell (CellState.Island result) }
 {
     let mut cell = CellState::Island(state);
     mature(&mut cell, now);
