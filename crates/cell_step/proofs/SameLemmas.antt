@@ -1,7 +1,6 @@
 -- Whether two states are the same, part by part.
 use Rattle.std.proofs.Common.{◌≡◌, ℕ, Bool, true, false, List, refl, ap, ◌∙◌, rules}
 use Rattle.std.specs.Prelude.{Option, Some, None, ◌&&◌, nat_eq}
-use Rattle.std.specs.Bool.{Decides}
 use Rattle.std.specs.Cmp.Lexicographic.{pointwise, pointwise_decides}
 use Rattle.std.proofs.lemmas.Bool.Decides.{Decides-and, Decides-like, Decides-eqb}
 use Rattle.level_range.specs.Signal.{Signal}
