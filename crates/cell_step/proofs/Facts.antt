@@ -1,10 +1,10 @@
 -- What soundness of a netlist says of one cell.
 use Rattle.std.proofs.Common.{◌≡◌, ◌≢◌, ℕ, zero, suc, ◌<◌, ◌≤◌, List, [], ◌∷◌, ◌++◌, length, get_or, refl, ap, sym, ◌∙◌, subst, arith, inl, inr}
-use Rattle.std.specs.Prelude.{All, Some, slice_get, slice_index_or}
+use Rattle.std.specs.Prelude.{All, Option, Some, IsTrue, false, replicate, slice_get, slice_index_or}
 use Rattle.std.specs.List.{AllZip}
-use Rattle.std.specs.Option.{IsSomeAnd}
+use Rattle.std.specs.Option.{IsSomeAnd, is_some}
 use Rattle.std.proofs.lemmas.Bool.{cases_lt}
-use Rattle.std.proofs.lemmas.List.{get_or_past, get_or_default, get_or-map, length-map}
+use Rattle.std.proofs.lemmas.List.{get_or_past, get_or_default, get_or-map, length-map, length-replicate}
 use Rattle.std.proofs.lemmas.Option.{slice_get-get_or, slice_get_within, get_or_from_slice_get}
 use Rattle.level_range.specs.declared.range.Kind.{Kind}
 use Rattle.level_range.specs.declared.range.Kind.TheVariants.{Plain}
@@ -20,18 +20,20 @@ use Rattle.flat_net.specs.declared.kinds.NetKind.{NetKind}
 use Rattle.flat_net.specs.declared.kinds.NetKind.TheVariants.{Wire, And, Or, Tri0, Tri1, Supply0, Supply1, Trireg}
 use Rattle.flat_net.specs.declared.parts.NetPart.{NetPart}
 use Rattle.flat_net.specs.declared.parts.Element.{Element}
+use Rattle.flat_net.specs.declared.parts.Drive.{Drive}
 use Rattle.flat_net.specs.declared.parts.Island.{Island}
 use Rattle.flat_net.specs.declared.parts.Parts.{Parts}
-use Rattle.flat_net.specs.Elements.{IsElement, HasPinsOf, end_nets}
+use Rattle.flat_net.specs.Elements.{IsElement, HasPinsOf, end_nets, joins_ends}
 use Rattle.flat_net.specs.Islands.{IsIsland, IsLink, HasCharge, combining}
 use Rattle.flat_net.specs.Soundness.{IsSound, IsNet}
-use Rattle.flat_net.proofs.Somes.{some_of}
+use Rattle.flat_net.proofs.Somes.{some_of, and_some}
 use Rattle.flat_net.proofs.ElementDecisions.{all_right}
 use Rattle.cell_step.specs.declared.states.NetState.{NetState}
 use Rattle.cell_step.specs.declared.states.IslandState.{IslandState}
-use Rattle.cell_step.specs.Readings.{no_element, no_net, no_island, no_primitive, element_at, net_at, island_at, primitive_at}
+use Rattle.cell_step.specs.Readings.{IsOutput, IsSwitch, no_element, no_net, no_island, no_primitive, element_at, net_at, island_at, primitive_at}
 use Rattle.cell_step.specs.Islands.{no_state, state_at, charges_of, part_at}
 use Rattle.cell_step.specs.Fitting.{HasAcceptedPrimitives, HasChargeOf, FitsNet, FitsIsland}
+use Rattle.cell_step.specs.Owns.{CanSettle}
 use Rattle.cell_step.proofs.Mapping.{zip-length, zip-at}
 use Rattle.cell_step.proofs.ElementStillness.{HasWidth}
 
@@ -242,3 +244,57 @@ module _ (parts : Parts) (sound : IsSound parts) where
         strengths = levels-are;
         charge_nets = charges-length ∙ sym long;
       }
+
+switch-of : (e : Element) (ends : ℕ × ℕ) → e.ends ≡ Some ends → is_some e.ends ≡ joins_ends e.kind → IsTrue (joins_ends e.kind)
+switch-of e ends there is = subst IsTrue is (subst (λ (o : Option (ℕ × ℕ)). IsTrue (is_some o)) (sym there) cc)
+
+-- where the number of an island stands for the island itself
+module _ (parts : Parts) (sound : IsSound parts) (number : ℕ) (lt : number < length parts.islands) where
+  drive-is : (place : ℕ) (d : Drive) → place < length (island_at parts number).drives →
+      IsOutput parts (slice_index_or (island_at parts number).drives place d).element (slice_index_or (island_at parts number).drives place d).pin
+      × ((slice_index_or (island_at parts number).drives place d).place < length (island_at parts number).nets)
+  drive-is place d within =
+      let island = island_at parts number in
+      let drive = slice_index_or island.drives place d in
+      let outer = some_of (λ (e : Element). IsSomeAnd (slice_get e.outs drive.pin) (λ net. slice_get island.nets drive.place ≡ Some net)) _
+          ((island-is parts sound number lt).drives place d within) in
+      let inner = some_of (λ net. slice_get island.nets drive.place ≡ Some net) _ outer.2 in
+      (and_some (λ (e : Element). drive.pin < length e.outs) (slice_get parts.elements drive.element) outer.0 outer.1
+      (slice_get_within outer.0.outs drive.pin inner.0 inner.1),
+      slice_get_within island.nets drive.place inner.0 inner.2)
+
+  link-is : (place d : ℕ) → place < length (island_at parts number).links → IsSwitch parts (slice_index_or (island_at parts number).links place d)
+  link-is place d within =
+      let island = island_at parts number in
+      let link = slice_index_or island.shape.links place (record { a = 0; b = 0; resistive = false }) in
+      let element = slice_index_or island.links place d in
+      let found = some_of (λ (e : Element). IsSomeAnd e.ends (λ ends.
+          (slice_get island.nets link.a ≡ Some ends.0) × (slice_get island.nets link.b ≡ Some ends.1))) _
+          (zip-at (IsLink parts.elements island.nets) island.links island.shape.links place d _ (island-is parts sound number lt).links within) in
+      let ends = some_of (λ (ends : ℕ × ℕ).
+          (slice_get island.nets link.a ≡ Some ends.0) × (slice_get island.nets link.b ≡ Some ends.1)) _ found.2 in
+      let is = sound.cells.elements element found.0 (slice_get_within parts.elements element found.0 found.1) in
+      let same = get_or_from_slice_get parts.elements element found.0 found.0 found.1 in
+      and_some (λ (e : Element). IsTrue (joins_ends e.kind)) (slice_get parts.elements element) found.0 found.1
+      (switch-of found.0 ends.0 ends.1 (subst (λ (e : Element). is_some e.ends ≡ joins_ends e.kind) same is.ends))
+
+  can-settle-at : (s : IslandState) → FitsIsland parts number s → CanSettle parts (island_at parts number) s
+  can-settle-at s fits = record {
+    nets = λ place d within. subst (λ n. n < length parts.nets)
+        (get_or_default (island_at parts number).nets place 0 d within) (place-within parts sound number lt place within);
+    kinds = place-kind parts sound number lt;
+    shape = sym (kinds-length parts sound number lt);
+    drives = λ place d within. (drive-is place d within).0;
+    places = λ place d within. (drive-is place d within).1;
+    links = link-is;
+    conduction = links-length parts sound number lt;
+    states = sym (states-length parts sound number lt s fits);
+    settling = λ nets same. subst (λ n. IsSettlingIsland (island_at parts number).shape n (charges_of s.nets))
+        (length-replicate nets undriven)
+        (settling-island parts sound number lt s fits (replicate nets undriven) (length-replicate nets undriven ∙ same));
+  }
+
+  pub can-settle : (s : IslandState) → FitsIsland parts number s → (island : Island) → slice_get parts.islands number ≡ Some island →
+      CanSettle parts island s
+  can-settle s fits island is =
+      subst (λ i. CanSettle parts i s) (get_or_from_slice_get parts.islands number island no_island is) (can-settle-at s fits)

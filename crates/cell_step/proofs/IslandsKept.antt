@@ -1,7 +1,8 @@
 -- What an island's part in a pass, its maturing and its start keep: its state fits, and its signals are signals; and the
 -- part in a pass done again changes nothing.
 use Rattle.std.proofs.Common.{◌≡◌, ◌≢◌, ℕ, zero, suc, ◌+◌, ◌<◌, ◌≤◌, ◌⊎◌, Bool, true, false, cond, List, [], ◌∷◌, length, get_or, refl, ap, sym, ◌∙◌, subst, arith, inl, inr}
-use Rattle.std.specs.Prelude.{ℤ, pos, negsuc, ◌≤ℤ◌, All, Option, Some, None, map, nat_eq, nat_le, unsigned_abs, slice_index_or}
+use Rattle.std.specs.Prelude.{ℤ, pos, negsuc, ◌≤ℤ◌, All, Option, Some, None, map, nat_eq, nat_le, unsigned_abs, slice_get, slice_index_or}
+use Rattle.std.proofs.lemmas.Option.{get_or_from_slice_get}
 use Rattle.std.specs.List.{AllZip, range_with_len}
 use Rattle.std.proofs.lemmas.Int.{ints}
 use Rattle.std.proofs.lemmas.List.{get_or_default, get_or-map, length-map}
@@ -30,7 +31,8 @@ use Rattle.cell_step.specs.declared.states.Timer.{Timer}
 use Rattle.cell_step.specs.declared.states.Timer.TheVariants.{Idle, Running, Ended}
 use Rattle.cell_step.specs.declared.states.NetState.{NetState}
 use Rattle.cell_step.specs.declared.states.IslandState.{IslandState}
-use Rattle.cell_step.specs.Readings.{Readings, net_at, island_at}
+use Rattle.cell_step.specs.Readings.{Readings, no_island, net_at, island_at}
+use Rattle.cell_step.specs.Owns.{left_charges}
 use Rattle.cell_step.specs.Changes.{mature_value, mature_due, is_timer_due, decay, mature_net, mature_island}
 use Rattle.cell_step.specs.Nets.{net_delay, decay_time, start_timer, next_timer, next_net, start_charge, net_start}
 use Rattle.cell_step.specs.Islands.{no_state, state_at, charges_of, part_at, own_signals, nets_after, next_island, island_after, island_start}
@@ -357,3 +359,22 @@ mature_net-signals now s has = record {
 
 pub mature_island-signals : (now : ℕ) (s : IslandState) → HasIslandSignals s → HasIslandSignals (mature_island now s)
 mature_island-signals now s has = All-map HasNetSignals (mature_net now) s.nets (λ k d lt. mature_net-signals now (slice_index_or s.nets k d) (has k d lt))
+
+-- what the code of an island knows by the island itself
+module _ (parts : Parts) (sound : IsSound parts) (number : ℕ) (lt : number < length parts.islands) where
+  pub levels-most : All (λ level. level ≤ 7) (island_at parts number).shape.charge
+  levels-most place d within =
+      let island = island_at parts number in
+      let inside : place < length island.nets = (let e = charge-length parts sound number lt in omega arith) in
+      let part = part_at parts island place in
+      subst (λ n. n ≤ 7) (sym (get_or_default island.shape.charge place d 0 within ∙ place-level parts sound number lt place inside))
+      (level-most part.kind part.charge (place-net parts sound number lt place inside).charge)
+
+  pub next-island_fits-of : (s : IslandState) → FitsIsland parts number s → (island : Island) → slice_get parts.islands number ≡ Some island →
+      (now : ℕ) (own : List Signal) (on : List Conduct) → AreCharges island.shape.charge (left_charges island own on s) →
+      (after : IslandState) → after ≡ next_island parts island now own on s → FitsIsland parts number after
+  next-island_fits-of s fits island is now own on left after e =
+      let same = get_or_from_slice_get parts.islands number island no_island is in
+      subst (FitsIsland parts number) (sym (e ∙ ap (λ (i : Island). next_island parts i now own on s) (sym same)))
+      (next-island_fits parts sound number lt own on s fits
+      (subst (λ (i : Island). AreCharges i.shape.charge (left_charges i own on s)) (sym same) left) now)

@@ -1,77 +1,20 @@
-ghost use Rattle.std.specs.Prelude.{◌≡◌, ◌+◌, ◌<◌, ◌≤◌, ◌^◌, IfOk, length, map, All};
+ghost use Rattle.std.specs.Prelude.{◌≡◌, ◌+◌, ◌<◌, ◌≤◌, ◌^◌, IfOk, length};
 ghost use Rattle.flat_net.specs.declared.kinds.Cell.{Cell};
 ghost use Rattle.flat_net.specs.Patches.{Fits};
 ghost use Rattle.flat_net.specs.Soundness.{IsSound};
 ghost use Rattle.cell_step.specs.Readings.{island_at};
 ghost use Rattle.cell_step.specs.Islands.{island_after, island_start};
-ghost use Rattle.cell_step.specs.Nets.{net_start};
 ghost use Rattle.cell_step.specs.Fitting.{FitsIsland};
 
 use crate::bench::Bench;
-use crate::islands::{read_own, read_switches, settle_nets};
-use crate::lists::NetStateList;
-use crate::nets::start_net;
-use crate::states::{IslandState, NetState};
+use crate::islands::settle_in_lists;
+use crate::nets::start_nets;
+use crate::states::IslandState;
 use crate::steps::Steps;
 use crate::view::View;
 use flat_net::{Flat, Patch};
-use level_range::{Conduct, Range};
-use net_settle::Scratch;
 use std::alloc::{AllocError, Global};
 use std::sync::ledger::Ledger;
-
-/// An island after its part in a pass, in lists that have at least as many places as it has nets, or
-/// links.
-fn step_in_lists<V: View>(
-    flat: &Flat,
-    i: u32,
-    patch: Patch,
-    state: &mut IslandState,
-    view: &V,
-    now: u64,
-    own: &mut [Range],
-    on: &mut [Conduct],
-    charges: &mut [Range],
-    driven: &mut [Range],
-    signals: &mut [Range],
-    scratch: &mut Scratch,
-)
-    requires island { i < length flat.now.parts.islands }
-    requires sound { IsSound flat.now.parts }
-    requires view { V.View.netlist view.now ≡ flat.now }
-    requires time { now ≤ 2 ^ 48 }
-    requires state { FitsIsland flat.now.parts i state.old }
-    requires own { length (island_at flat.now.parts i).nets ≤ length own.old }
-    requires on { length (island_at flat.now.parts i).links ≤ length on.old }
-    requires charges { length (island_at flat.now.parts i).nets ≤ length charges.old }
-    requires driven { length (island_at flat.now.parts i).nets ≤ length driven.old }
-    requires signals { length (island_at flat.now.parts i).nets ≤ length signals.old }
-    requires room { length (island_at flat.now.parts i).nets ≤ scratch.old }
-    ensures state { state.new
-        ≡ island_after flat.now.parts i patch now (V.View.readings view.now) state.old }
-    ensures fits { FitsIsland flat.now.parts i state.new }
-    ensures room { scratch.new ≡ scratch.old }
-{
-    let island = flat.island(i);
-    let nets = island.nets.as_slice().len();
-    let links = island.links.as_slice();
-    let own = &mut own[..nets];
-    let on = &mut on[..links.len()];
-    read_own(own, flat, island, patch, view);
-    read_switches(on, flat, links, view);
-    settle_nets(
-        state,
-        flat,
-        island,
-        now,
-        own,
-        on,
-        &mut charges[..nets],
-        &mut driven[..nets],
-        &mut signals[..nets],
-        scratch,
-    );
-}
 
 /// An island's part in a pass at `now`: its nets settle from what the view answers of its drives, its
 /// switches and its inputs; then what is seen of each net becomes the settled signal, at once where
@@ -102,11 +45,11 @@ pub fn island_step<V: View, L: Ledger>(
     // The netlist is known to be sound where it is read.
     let _nets = flat.net_count();
     steps.tick();
-    step_in_lists(
-        flat,
-        i,
-        patch,
+    settle_in_lists(
         state,
+        flat,
+        flat.island(i),
+        patch,
         view,
         now,
         bench.own.as_mut_slice(),
@@ -116,18 +59,6 @@ pub fn island_step<V: View, L: Ledger>(
         bench.out.as_mut_slice(),
         &mut bench.scratch,
     );
-}
-
-/// The nets of an island at the start, by the levels of their charges.
-fn start_nets(alloc: Global, levels: &[u8]) -> Result<Vec<NetState>, AllocError>
-    requires { All (λ level. level ≤ 7) levels.now }
-    ensures { IfOk result (λ nets. nets.items ≡ map net_start levels.now) }
-{
-    let mut nets = Vec::with_capacity(alloc, levels.len())?;
-    for level in levels {
-        nets.push(start_net(*level))?;
-    }
-    Ok(nets)
 }
 
 /// An island at the start: the settled and the seen signal of each net are z, and of a trireg its
@@ -140,6 +71,6 @@ pub fn start_island(alloc: Global, flat: &Flat, i: u32) -> Result<IslandState, A
     let _nets = flat.net_count();
     let levels = flat.island(i).shape.charge.as_slice();
     Ok(IslandState {
-        nets: NetStateList::from_vec(start_nets(alloc, levels)?),
+        nets: start_nets(alloc, levels)?,
     })
 }

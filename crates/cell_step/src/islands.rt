@@ -1,12 +1,12 @@
 ghost use Rattle.std.specs.Prelude.{◌≡◌, ◌<◌, ◌≤◌, ◌^◌, [], length, map, slice_index_or, slice_set, All};
 ghost use Rattle.level_range.specs.Combine.{join_of};
-ghost use Rattle.net_settle.specs.Charges.{signal_at, island_signals, charges_left};
+ghost use Rattle.net_settle.specs.Charges.{signal_at};
 ghost use Rattle.flat_net.specs.Islands.{combining as combining_of};
 ghost use Rattle.cell_step.specs.Readings.{AreDrivesOf, AreNetsOf, AreSwitchesOf, net_at};
 ghost use Rattle.cell_step.specs.Elements.{bit_value as bit_value_of, stuck_signal as stuck_signal_of};
 ghost use Rattle.cell_step.specs.Islands.{own_driver as own_driver_of, own_signals as own_signals_of, charges_of, nets_after, next_island};
-ghost use Rattle.net_settle.specs.Conditions.{AreCharges, IsIsland as IsSettlingIsland};
-ghost use Rattle.cell_step.specs.Owns.{driver_signals, stick_nets, HasKinds};
+ghost use Rattle.net_settle.specs.Conditions.{AreCharges};
+ghost use Rattle.cell_step.specs.Owns.{driver_signals, stick_nets, HasKinds, CanSettle, left_charges};
 
 use crate::lists::NetStateList;
 use crate::states::IslandState;
@@ -120,7 +120,7 @@ fn stick_net(own: &mut [Range], nets: &[u32], stuck: u32, value: bool)
 }
 
 /// What the switches of an island conduct.
-pub(crate) fn read_switches<V: View>(on: &mut [Conduct], flat: &Flat, links: &[u32], view: &V)
+fn read_switches<V: View>(on: &mut [Conduct], flat: &Flat, links: &[u32], view: &V)
     requires view { V.View.netlist view.now ≡ flat.now }
     requires links { AreSwitchesOf flat.now.parts links.now }
     requires size { length on.old ≡ length links.now }
@@ -143,13 +143,16 @@ fn read_charges(charges: &mut [Range], nets: &NetStateList)
 }
 
 /// The own signals of an island's nets.
-pub(crate) fn read_own<V: View>(own: &mut [Range], flat: &Flat, island: &Island, patch: Patch, view: &V)
+fn read_own<V: View>(
+    own: &mut [Range],
+    flat: &Flat,
+    island: &Island,
+    patch: Patch,
+    view: &V,
+    state: &IslandState,
+)
     requires view { V.View.netlist view.now ≡ flat.now }
-    requires nets { AreNetsOf flat.now.parts island.now.nets }
-    requires kinds { HasKinds flat.now.parts island.now }
-    requires shape { length island.now.shape.kinds ≡ length island.now.nets }
-    requires drives { AreDrivesOf flat.now.parts island.now.drives }
-    requires places { All (λ (drive : Drive). drive.place < length island.now.nets) island.now.drives }
+    requires island { CanSettle flat.now.parts island.now state.now }
     requires size { length own.old ≡ length island.now.nets }
     ensures { own.new ≡ own_signals_of flat.now.parts (V.View.readings view.now) patch island.now }
 {
@@ -197,7 +200,7 @@ fn step_nets(
 
 /// An island after settling, whose own signals and switches are given. The lists are as long as the
 /// island has nets.
-pub(crate) fn settle_nets(
+fn settle_nets(
     state: &mut IslandState,
     flat: &Flat,
     island: &Island,
@@ -210,11 +213,9 @@ pub(crate) fn settle_nets(
     scratch: &mut Scratch,
 )
     requires time { now ≤ 2 ^ 48 }
-    requires numbers { AreNetsOf flat.now.parts island.now.nets }
-    requires states { length state.old.nets ≡ length island.now.nets }
+    requires island { CanSettle flat.now.parts island.now state.old }
     requires own { length own.now ≡ length island.now.nets }
-    requires conduction { length on.now ≡ length island.now.shape.links }
-    requires island { IsSettlingIsland island.now.shape (length own.now) (charges_of state.old.nets) }
+    requires on { length on.now ≡ length island.now.links }
     requires charges { length charges.old ≡ length island.now.nets }
     requires driven { length driven.old ≡ length island.now.nets }
     requires signals { length signals.old ≡ length island.now.nets }
@@ -222,8 +223,7 @@ pub(crate) fn settle_nets(
     ensures state { state.new
         ≡ next_island flat.now.parts island.now now own.now on.now state.old }
     ensures charges { AreCharges island.now.shape.charge
-        (charges_left island.now.shape.charge (charges_of state.old.nets)
-        (island_signals island.now.shape on.now own.now (charges_of state.old.nets))) }
+        (left_charges island.now own.now on.now state.old) }
     ensures room { scratch.new ≡ scratch.old }
 {
     read_charges(charges, &state.nets);
@@ -236,5 +236,99 @@ pub(crate) fn settle_nets(
         driven,
         signals,
         charges,
+    );
+}
+
+/// An island after its part in a pass, in lists that are as long as it has nets, or links.
+fn settle_island<V: View>(
+    state: &mut IslandState,
+    flat: &Flat,
+    island: &Island,
+    patch: Patch,
+    view: &V,
+    now: u64,
+    own: &mut [Range],
+    on: &mut [Conduct],
+    charges: &mut [Range],
+    driven: &mut [Range],
+    signals: &mut [Range],
+    scratch: &mut Scratch,
+)
+    requires view { V.View.netlist view.now ≡ flat.now }
+    requires time { now ≤ 2 ^ 48 }
+    requires island { CanSettle flat.now.parts island.now state.old }
+    requires own { length own.old ≡ length island.now.nets }
+    requires on { length on.old ≡ length island.now.links }
+    requires charges { length charges.old ≡ length island.now.nets }
+    requires driven { length driven.old ≡ length island.now.nets }
+    requires signals { length signals.old ≡ length island.now.nets }
+    requires room { length island.now.nets ≤ scratch.old }
+    ensures state { state.new
+        ≡ next_island flat.now.parts island.now now
+        (own_signals_of flat.now.parts (V.View.readings view.now) patch island.now)
+        (map (V.View.readings view.now).conduct island.now.links) state.old }
+    ensures charges { AreCharges island.now.shape.charge
+        (left_charges island.now
+        (own_signals_of flat.now.parts (V.View.readings view.now) patch island.now)
+        (map (V.View.readings view.now).conduct island.now.links) state.old) }
+    ensures room { scratch.new ≡ scratch.old }
+{
+    read_own(own, flat, island, patch, view, state);
+    read_switches(on, flat, island.links.as_slice(), view);
+    settle_nets(
+        state, flat, island, now, own, on, charges, driven, signals, scratch,
+    );
+}
+
+/// An island after its part in a pass, in lists that have at least as many places as it has nets, or
+/// links.
+pub(crate) fn settle_in_lists<V: View>(
+    state: &mut IslandState,
+    flat: &Flat,
+    island: &Island,
+    patch: Patch,
+    view: &V,
+    now: u64,
+    own: &mut [Range],
+    on: &mut [Conduct],
+    charges: &mut [Range],
+    driven: &mut [Range],
+    signals: &mut [Range],
+    scratch: &mut Scratch,
+)
+    requires view { V.View.netlist view.now ≡ flat.now }
+    requires time { now ≤ 2 ^ 48 }
+    requires island { CanSettle flat.now.parts island.now state.old }
+    requires own { length island.now.nets ≤ length own.old }
+    requires on { length island.now.links ≤ length on.old }
+    requires charges { length island.now.nets ≤ length charges.old }
+    requires driven { length island.now.nets ≤ length driven.old }
+    requires signals { length island.now.nets ≤ length signals.old }
+    requires room { length island.now.nets ≤ scratch.old }
+    ensures state { state.new
+        ≡ next_island flat.now.parts island.now now
+        (own_signals_of flat.now.parts (V.View.readings view.now) patch island.now)
+        (map (V.View.readings view.now).conduct island.now.links) state.old }
+    ensures charges { AreCharges island.now.shape.charge
+        (left_charges island.now
+        (own_signals_of flat.now.parts (V.View.readings view.now) patch island.now)
+        (map (V.View.readings view.now).conduct island.now.links) state.old) }
+    ensures room { scratch.new ≡ scratch.old }
+{
+    let nets = island.nets.as_slice().len();
+    let links = island.links.as_slice().len();
+    settle_island(
+        state,
+        flat,
+        island,
+        patch,
+        view,
+        now,
+        &mut own[..nets],
+        &mut on[..links],
+        &mut charges[..nets],
+        &mut driven[..nets],
+        &mut signals[..nets],
+        scratch,
     );
 }

@@ -1,13 +1,15 @@
-ghost use Rattle.std.specs.Prelude.{◌≡◌, ◌<◌, ◌≤◌, ◌+◌, ◌^◌};
+ghost use Rattle.std.specs.Prelude.{◌≡◌, IfOk, All, map, length, ◌<◌, ◌≤◌, ◌+◌, ◌^◌};
 ghost use Rattle.level_range.specs.Signal.{reads};
 ghost use Rattle.delay_rule.specs.Delay.{delay_list};
 ghost use Rattle.delay_rule.specs.Inertia.{retargeted, same_signal};
 ghost use Rattle.cell_step.specs.Nets.{net_delay, change_delays as change_delays_of, decay_time as decay_time_of, start_timer as start_timer_of, next_timer as next_timer_of, next_net as next_net_of, net_start as net_start_of};
 
+use crate::lists::NetStateList;
 use crate::states::{NetState, Timer};
 use delay_rule::{Delays, Pending, retarget};
 use flat_net::{NetKind, NetPart};
 use level_range::Range;
+use std::alloc::{AllocError, Global};
 
 /// The delays of a net's changes: a trireg uses its first two.
 fn change_delays(part: &NetPart) -> Delays
@@ -106,7 +108,7 @@ pub(crate) fn next_net(
 }
 
 /// A net at the start, of a charge level that is 0 for a net that is no trireg.
-pub(crate) fn start_net(level: u8) -> NetState
+fn start_net(level: u8) -> NetState
     requires { level ≤ 7 }
     ensures { result ≡ net_start_of level }
 {
@@ -118,4 +120,27 @@ pub(crate) fn start_net(level: u8) -> NetState
         charge,
         timer: Timer::Idle,
     }
+}
+
+/// A list of so many elements.
+fn elements<T: Copy + Drop>(
+    alloc: Global,
+    element: T,
+    count: usize,
+) -> Result<Vec<T>, AllocError>
+    ensures { IfOk result (λ list. length list.items ≡ count) }
+{
+    vec![in alloc; element; count]
+}
+
+/// The nets of an island at the start, by the levels of their charges.
+pub(crate) fn start_nets(alloc: Global, levels: &[u8]) -> Result<NetStateList, AllocError>
+    requires { All (λ level. level ≤ 7) levels.now }
+    ensures { IfOk result (λ nets. nets ≡ map net_start_of levels.now) }
+{
+    let mut nets = NetStateList::from_vec(elements(alloc, start_net(0), levels.len())?);
+    for place in 0..levels.len() {
+        nets.set(place, start_net(levels[place]));
+    }
+    Ok(nets)
 }
