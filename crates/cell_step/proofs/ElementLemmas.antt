@@ -1,9 +1,8 @@
 -- What soundness of a netlist says of an element, and states that fit it.
-use Rattle.std.proofs.Common.{◌≡◌, ◌≢◌, ◌<◌, ℕ, Bool, true, false, cond, List, ◌++◌, length, refl, ap, sym, subst, Some}
-use Rattle.std.specs.Prelude.{All, Option, slice_get, slice_index_or}
+use Rattle.std.proofs.Common.{◌≡◌, ◌≢◌, ◌<◌, ℕ, Bool, true, false, cond, List, ◌++◌, length, refl, ap, subst, Some}
+use Rattle.std.specs.Prelude.{Option, slice_get}
 use Rattle.std.proofs.lemmas.Option.{slice_get_within, get_or_from_slice_get}
 use Rattle.level_range.specs.Signal.{Signal}
-use Rattle.level_range.specs.declared.range.Conduct.{Conduct}
 use Rattle.delay_rule.specs.declared.inertia.Pending.{Pending}
 use Rattle.flat_net.specs.declared.kinds.ElementKind.{ElementKind}
 use Rattle.flat_net.specs.declared.kinds.ElementKind.TheVariants.{Fold, Enable, Mos, Udp, Copy, Constant, Pull, Tran, Tranif}

@@ -1,5 +1,5 @@
 -- The value of a logic gate on what its input pins read, by the tables.
-use Rattle.std.proofs.Common.{◌≡◌, ◌<◌, ℕ, zero, suc, ◌+◌, List, [], ◌∷◌, length, map, get_or, take, ◌≤◌, refl, ap, sym, subst, ◌∙◌, arith}
+use Rattle.std.proofs.Common.{◌≡◌, ◌<◌, ℕ, ◌+◌, List, [], ◌∷◌, length, map, get_or, take, ◌≤◌, refl, ap, sym, subst, ◌∙◌, arith}
 use Rattle.std.specs.Prelude.{fold}
 use Rattle.std.proofs.lemmas.List.{map_more, take_all, length-map}
 use Rattle.std.proofs.lemmas.Grind.{fold-append}

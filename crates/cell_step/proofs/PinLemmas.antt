@@ -1,6 +1,6 @@
 -- The signals at the input pins of an element, place by place.
 use Rattle.std.proofs.Common.{◌≡◌, ◌<◌, ℕ, zero, suc, ◌+◌, List, [], ◌∷◌, length, get_or, refl, ap, ◌∙◌, arith}
-use Rattle.level_range.specs.Signal.{Signal, undriven}
+use Rattle.level_range.specs.Signal.{undriven}
 use Rattle.flat_net.specs.declared.kinds.Patch.{Patch}
 use Rattle.flat_net.specs.declared.parts.Element.{Element}
 use Rattle.flat_net.specs.Patches.{first_input}

@@ -1,7 +1,6 @@
 -- Whether two states are the same, part by part.
 use Rattle.std.proofs.Common.{◌≡◌, ℕ, Bool, true, false, List, refl, ap, ◌∙◌, rules}
 use Rattle.std.specs.Prelude.{Option, Some, None, ◌&&◌, nat_eq}
-use Rattle.std.specs.Bool.{Decides}
 use Rattle.std.specs.Cmp.Lexicographic.{pointwise, pointwise_decides}
 use Rattle.std.proofs.lemmas.Bool.Decides.{Decides-and, Decides-like, Decides-eqb}
 use Rattle.level_range.specs.Signal.{Signal}
@@ -109,7 +108,7 @@ same-net-parts a b e =
     ∙ ap (λ charge. net b.settled b.seen b.due charge a.timer) e.1.1.1.0
     ∙ ap (net b.settled b.seen b.due b.charge) e.1.1.1.1
 
-IsEquality-same_net : IsEquality same_net
+pub IsEquality-same_net : IsEquality same_net
 IsEquality-same_net a b =
     Decides-like (same_net a b) (same-net-parts a b)
     (λ e. (ap (λ s. s.settled) e, (ap (λ s. s.seen) e, (ap (λ s. s.due) e, (ap (λ s. s.charge) e, ap (λ s. s.timer) e)))))
@@ -117,9 +116,3 @@ IsEquality-same_net a b =
     (Decides-and _ _ (IsEquality-same_signal a.seen b.seen)
     (Decides-and _ _ (IsEquality-same_pending same_signal IsEquality-same_signal a.due b.due)
     (Decides-and _ _ (IsEquality-same_signal a.charge b.charge) (IsEquality-same_timer a.timer b.timer)))))
-
-abbrev pub same_nets : List NetState → List NetState → Bool
-same_nets xs ys = pointwise same_net xs ys
-
-pub IsEquality-same_nets : IsEquality same_nets
-IsEquality-same_nets xs ys = pointwise_decides IsEquality-same_net xs ys

@@ -27,11 +27,26 @@ fn same_element(a: &ElementState, b: &ElementState) -> bool
     a == b
 }
 
-/// Whether two lists of states of nets are the same in every part.
-fn same_nets(a: &[NetState], b: &[NetState]) -> bool
-    ensures { Decides result (a.now ≡ b.now) }
+/// Whether two states of nets are the same in every part.
+fn same_net(net: &NetState, other: &NetState) -> bool
+    ensures { Decides result (net.now ≡ other.now) }
 {
-    a == b
+    net == other
+}
+
+/// Whether two lists of states of nets are the same.
+fn same_nets(nets: &[NetState], others: &[NetState]) -> bool
+    ensures { Decides result (nets.now ≡ others.now) }
+{
+    if nets.len() != others.len() {
+        return false;
+    }
+    for place in 0..nets.len() {
+        if !same_net(&nets[place], &others[place]) {
+            return false;
+        }
+    }
+    true
 }
 
 /// Whether two states of cells are the same in every part.

@@ -1,5 +1,4 @@
-use Rattle.std.proofs.Common.{◌≡◌, ◌<◌, ℕ, length, sym, ap, ◌∙◌, subst}
-use Rattle.flat_net.specs.declared.kinds.ElementKind.{ElementKind}
+use Rattle.std.proofs.Common.{sym, ap, ◌∙◌, subst}
 use Rattle.flat_net.specs.declared.parts.Element.{Element}
 use Rattle.flat_net.specs.Patches.{Netlist}
 use Rattle.cell_step.specs.Readings.{AreNetsOf}

@@ -1,7 +1,6 @@
-use Rattle.std.proofs.Common.{◌≡◌, ℕ, Bool, true, length, sym, ap, ◌∙◌, subst}
-use Rattle.flat_net.specs.declared.kinds.ElementKind.TheVariants.{Tran, Tranif}
+use Rattle.std.proofs.Common.{length, sym, ap, ◌∙◌, subst}
 use Rattle.flat_net.specs.Elements.{joins_ends}
-use Rattle.cell_step.specs.Elements.{input_signals, conduct_of_kind, aim_switch, aim_signal}
+use Rattle.cell_step.specs.Elements.{input_signals, conduct_of_kind}
 use Rattle.cell_step.specs.Fitting.{FitsKind}
 use Rattle.cell_step.proofs.ElementLemmas.{next_switch, next_other, joins_no_ends, fits_due}
 use Rattle.cell_step.proofs.elements.next_element.Goals as goal

@@ -1,4 +1,4 @@
-use Rattle.std.proofs.Common.{◌≡◌, ◌<◌, ◌≤◌, length, arith, ap, sym, ◌∙◌}
+use Rattle.std.proofs.Common.{length, arith, ap}
 use Rattle.logic_tables.specs.Cells.{cell_of}
 use Rattle.cell_step.proofs.GateLemmas.{fold_pins_more, fold_pins_all}
 use Rattle.cell_step.proofs.gates.fold_pins.Goals as goal

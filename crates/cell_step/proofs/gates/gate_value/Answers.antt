@@ -1,4 +1,4 @@
-use Rattle.std.proofs.Common.{◌≡◌, length, subst}
+use Rattle.std.proofs.Common.{length, subst}
 use Rattle.logic_tables.specs.declared.kinds.FoldKind.{FoldKind}
 use Rattle.logic_tables.specs.Fold.{Takes}
 use Rattle.cell_step.proofs.GateLemmas.{buf_value, not_value}

@@ -1,4 +1,4 @@
-use Rattle.std.proofs.Common.{◌≡◌, ◌++◌, length, drop, sym, ap, ◌∙◌}
+use Rattle.std.proofs.Common.{◌≡◌, ◌++◌, drop, sym, ap, ◌∙◌}
 use Rattle.udp_table.specs.LookUp.{level_value}
 use Rattle.cell_step.specs.Elements.{input_signals, primitive_inputs, primitive_value}
 use Rattle.cell_step.proofs.PrimitiveLemmas.{take_inputs, take_known, sequential_value_is, combinational_value, with_memory, sequential_remembers, combinational_remembers, primitive_inputs_length}

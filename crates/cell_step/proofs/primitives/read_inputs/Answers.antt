@@ -1,5 +1,4 @@
-use Rattle.std.proofs.Common.{◌≡◌, ◌<◌, length, slice_set, ap, ◌∙◌, arith}
-use Rattle.cell_step.specs.Elements.{known}
+use Rattle.std.proofs.Common.{length, ap, ◌∙◌, arith}
 use Rattle.cell_step.proofs.PrimitiveLemmas.{over_inputs, over_all}
 use Rattle.cell_step.proofs.primitives.read_inputs.Goals as goal
 
