@@ -8,24 +8,30 @@ ghost use Rattle.cell_step.specs.Readings.{IsOutput};
 ghost use Rattle.cell_step.specs.Fitting.{FitsElement};
 
 mod copies;
+mod gate_rows;
 mod island_rows;
 mod islands;
+mod models;
 mod netlists;
-mod rows;
+mod run_rows;
+mod switch_rows;
 
 use crate::pins::first_input;
 use crate::{
     CellState, ElementState, Steps, View, conduct_of, drive_of, element_step, mature, start_element,
 };
 use flat_net::{Element, ElementKind, Flat, Patch, sound};
+use gate_rows::gates;
 use level_range::{Conduct, Range};
+use models::{Case, Output, Pass};
 use netlists::parts_of;
-use rows::{Case, Output, Pass, kinds, runs};
+use run_rows::runs;
 use std::alloc::{AllocError, Global};
 use std::marker::Brand;
 use std::process::Abort;
 use std::sync::ledger::{Blank, Ledger};
 use std::test::Fail;
+use switch_rows::switches;
 
 /// What elements of a netlist see: a signal for each of its first nets, else z.
 #[derive(Drop)]
@@ -243,7 +249,8 @@ fn count_steps(rt: &impl Abort, alloc: Global, cases: &[Case]) -> Result<(), Fai
 
 #[test]
 fn each_kind_of_element_with_each_patch(rt: HostRuntime) -> Result<(), Fail> {
-    count_steps(&rt, rt.alloc(), kinds())
+    count_steps(&rt, rt.alloc(), gates())?;
+    count_steps(&rt, rt.alloc(), switches())
 }
 
 #[test]

@@ -1,7 +1,7 @@
 //! Netlists of one element whose pins are on nets of their own.
 ghost use Rattle.std.specs.Prelude.{◌≤◌};
 
-use super::rows::{Model, Table, tables};
+use super::models::{Model, Table, tables};
 use byte_lists::{Bytes, NameList, NetList};
 use delay_rule::Delays;
 use flat_net::{Drive, Element, ElementKind, Island, NetKind, NetPart, Parts};
