@@ -10,9 +10,9 @@ use crate::line_fault::LineFault;
 use crate::refusal::Refusal;
 use crate::status::Status;
 use byte_lists::Bytes;
+use first_machine::simulate;
 use gate_net::{Netlist, Stimulus};
 use itoa::Buffer;
-use first_machine::simulate;
 use std::alloc::{AllocError, Global};
 
 /// The most passes of a time step.
