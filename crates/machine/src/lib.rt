@@ -1,0 +1,2 @@
+//! Machines of a flat netlist: their passes, time steps and runs, over the definitions alone.
+#![tactic(auto)]
