@@ -8,7 +8,7 @@ use Rattle.level_range.specs.declared.range.Conduct.{Conduct}
 use Rattle.level_range.specs.Signal.{Signal, reads, span_of}
 use Rattle.delay_rule.specs.declared.inertia.Pending.{Pending}
 use Rattle.delay_rule.specs.Delay.{due, switch_value}
-use Rattle.delay_rule.specs.Inertia.{retargeted, same_signal, same_conduct}
+use Rattle.delay_rule.specs.Inertia.{pending_after, same_signal, same_conduct}
 use Rattle.delay_rule.proofs.InertiaLemmas.{IsEquality-same_signal}
 use Rattle.udp_table.specs.declared.rows.UdpRow.{UdpRow}
 use Rattle.udp_table.specs.Primitive.{Primitive}
@@ -23,7 +23,7 @@ use Rattle.flat_net.specs.Elements.{joins_ends}
 use Rattle.cell_step.specs.declared.states.ElementState.{ElementState}
 use Rattle.cell_step.specs.Readings.{primitive_at}
 use Rattle.cell_step.specs.Elements.{known, primitive_inputs, primitive_value, remember, remember_of_kind, signal_of_kind, conduct_of_kind, aim_signal, aim_switch, next_element}
-use Rattle.cell_step.proofs.Aiming.{retargeted-again, IsEquality-same_conduct}
+use Rattle.cell_step.proofs.Aiming.{pending_after-again, IsEquality-same_conduct}
 
 same_value-itself : (v : Logic) → same_value v v ≡ true
 same_value-itself value.Zero = refl
@@ -145,7 +145,7 @@ module _ (parts : Parts) (e : Element) (patch : Patch) (now later : ℕ) (ins : 
   switch-again is =
       let target = conduct_of_kind e.kind patch ins in
       rw is (ap (λ d. record s { switch_due = d })
-      (retargeted-again same_conduct IsEquality-same_conduct s.on s.switch_due target (due now e.delays (switch_value target))
+      (pending_after-again same_conduct IsEquality-same_conduct s.on s.switch_due target (due now e.delays (switch_value target))
       (due later e.delays (switch_value target))))
 
   output-again : joins_ends e.kind ≡ false → HasWidth parts e.kind (length ins) →
@@ -155,13 +155,13 @@ module _ (parts : Parts) (e : Element) (patch : Patch) (now later : ℕ) (ins : 
       let target = signal_of_kind parts e.kind e.s0 e.s1 patch s ins in
       let memory = remember_of_kind parts e.kind ins s in
       let tick = due now e.delays (reads target) in
-      let change = retargeted same_signal memory.out memory.due target tick in
+      let change = pending_after same_signal memory.out memory.due target tick in
       rw is (
       ap (λ t. aim_signal e later t (remember_of_kind parts e.kind ins (left parts s ins change e.kind)))
       (signal-again parts s ins change e.kind e.s0 e.s1 patch width)
       ∙ ap (aim_signal e later target) (memory-again parts s ins change e.kind width)
       ∙ ap (λ d. record memory { due = d })
-      (retargeted-again same_signal IsEquality-same_signal memory.out memory.due target tick (due later e.delays (reads target)))
+      (pending_after-again same_signal IsEquality-same_signal memory.out memory.due target tick (due later e.delays (reads target)))
       )
 
   pub next_element-again : HasWidth parts e.kind (length ins) →

@@ -13,7 +13,7 @@ use Rattle.level_range.specs.Signal.{Signal, IsSignal, undriven, negative_level,
 use Rattle.level_range.proofs.Reduction.{undriven-is}
 use Rattle.delay_rule.specs.declared.inertia.Pending.{Pending}
 use Rattle.delay_rule.specs.Delay.{delay_list}
-use Rattle.delay_rule.specs.Inertia.{retargeted, same_signal}
+use Rattle.delay_rule.specs.Inertia.{pending_after, same_signal}
 use Rattle.net_settle.specs.Charges.{signal_at, level, charge_left, charges_left, driven_signals, island_signals}
 use Rattle.net_settle.specs.Conditions.{IsCharge, IsChargeLevel, AreCharges}
 use Rattle.net_settle.specs.Conditions.{IsIsland as IsSettlingIsland}
@@ -113,7 +113,7 @@ next_net-signals part now driven signal charge s is charge_is has =
     seen-is true = is
     seen-is false = has.seen
 
-    due-is : (b : Bool) → IsSignalPending (cond b None (retargeted same_signal s.seen s.due signal (now + net_delay part (reads signal))))
+    due-is : (b : Bool) → IsSignalPending (cond b None (pending_after same_signal s.seen s.due signal (now + net_delay part (reads signal))))
     due-is true = cc
     due-is false = pending-after s.seen s.due signal (now + net_delay part (reads signal)) has.due is
 

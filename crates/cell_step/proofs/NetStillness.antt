@@ -4,14 +4,14 @@ use Rattle.std.specs.Prelude.{Option, None, nat_eq}
 use Rattle.level_range.specs.Signal.{Signal, undriven, reads}
 use Rattle.delay_rule.specs.declared.inertia.Pending.{Pending}
 use Rattle.delay_rule.specs.Delay.{delay_list}
-use Rattle.delay_rule.specs.Inertia.{retargeted, same_signal}
+use Rattle.delay_rule.specs.Inertia.{pending_after, same_signal}
 use Rattle.delay_rule.proofs.InertiaLemmas.{IsEquality-same_signal}
 use Rattle.flat_net.specs.declared.parts.NetPart.{NetPart}
 use Rattle.cell_step.specs.declared.states.Timer.{Timer}
 use Rattle.cell_step.specs.declared.states.Timer.TheVariants.{Idle, Running, Ended}
 use Rattle.cell_step.specs.declared.states.NetState.{NetState}
 use Rattle.cell_step.specs.Nets.{net_delay, decay_time, start_timer, next_timer, next_net}
-use Rattle.cell_step.proofs.Aiming.{retargeted-again}
+use Rattle.cell_step.proofs.Aiming.{pending_after-again}
 
 start_timer-again : (time now later : ℕ) (timer : Timer) → start_timer time later (start_timer time now timer) ≡ start_timer time now timer
 start_timer-again time now later (Running at) = refl
@@ -35,10 +35,10 @@ seen-again true signal seen = refl
 seen-again false signal seen = refl
 
 due-again : (at_once : Bool) (signal seen : Signal) (due : Option (Pending Signal)) (tick later : ℕ) →
-    cond at_once None (retargeted same_signal (cond at_once signal seen) (cond at_once None (retargeted same_signal seen due signal tick)) signal later)
-    ≡ cond at_once None (retargeted same_signal seen due signal tick)
+    cond at_once None (pending_after same_signal (cond at_once signal seen) (cond at_once None (pending_after same_signal seen due signal tick)) signal later)
+    ≡ cond at_once None (pending_after same_signal seen due signal tick)
 due-again true signal seen due tick later = refl
-due-again false signal seen due tick later = retargeted-again same_signal IsEquality-same_signal seen due signal tick later
+due-again false signal seen due tick later = pending_after-again same_signal IsEquality-same_signal seen due signal tick later
 
 net-of : (settled charge a b : Signal) (p q : Option (Pending Signal)) (t u : Timer) → a ≡ b → p ≡ q → t ≡ u →
     (let x : NetState = record { settled = settled; seen = a; due = p; charge = charge; timer = t } in x)

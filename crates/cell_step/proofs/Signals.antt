@@ -17,7 +17,7 @@ use Rattle.logic_tables.specs.declared.kinds.EnableOut.{EnableOut}
 use Rattle.logic_tables.specs.declared.kinds.EnableOut.TheVariants as out
 use Rattle.logic_tables.specs.Enable.{enable_span_of}
 use Rattle.delay_rule.specs.declared.inertia.Pending.{Pending}
-use Rattle.delay_rule.specs.Inertia.{is_pending, retargeted, same_signal}
+use Rattle.delay_rule.specs.Inertia.{is_pending, pending_after, same_signal}
 use Rattle.net_settle.specs.Conditions.{IsCharge}
 use Rattle.net_settle.proofs.Signals.{signal_is}
 use Rattle.flat_net.specs.declared.kinds.Patch.{Patch}
@@ -179,7 +179,7 @@ charge-signal c s le (inr (inr e)) = subst IsSignal (sym e) (span-signal value.X
 
 -- a pending signal after a target
 pub pending-after : (present : Signal) (pending : Option (Pending Signal)) (target : Signal) (tick : ℕ) →
-    IsSignalPending pending → IsSignal target → IsSignalPending (retargeted same_signal present pending target tick)
+    IsSignalPending pending → IsSignal target → IsSignalPending (pending_after same_signal present pending target tick)
 pending-after present pending target tick waits aims = by_tests (is_pending same_signal pending target) (same_signal target present)
   where
     by_tests : (a b : Bool) → IsSignalPending (cond a pending (cond b None (Some (record { value = target; at = tick }))))

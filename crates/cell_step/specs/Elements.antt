@@ -10,7 +10,7 @@ use Rattle.level_range.specs.Reduce.{reduction_of, hull_with_z}
 use Rattle.logic_tables.specs.Fold.{gate_value}
 use Rattle.logic_tables.specs.Enable.{enable_of, enable_span_of, conduct_of}
 use Rattle.delay_rule.specs.Delay.{due, switch_value}
-use Rattle.delay_rule.specs.Inertia.{retargeted, same_signal, same_conduct}
+use Rattle.delay_rule.specs.Inertia.{pending_after, same_signal, same_conduct}
 use Rattle.udp_table.specs.Primitive.{Primitive}
 use Rattle.udp_table.specs.LookUp.{level_value, state_after}
 use Rattle.flat_net.specs.declared.kinds.Patch.{Patch}
@@ -140,12 +140,12 @@ remember_of_kind parts (Tranif on_one) ins s = s
 -- an element with a new target for its output: the delay is that of how the target reads
 abbrev pub aim_signal : Element → ℕ → Signal → ElementState → ElementState
 aim_signal e now target s =
-    record s { due = retargeted same_signal s.out s.due target (due now e.delays (reads target)) }
+    record s { due = pending_after same_signal s.out s.due target (due now e.delays (reads target)) }
 
 -- a switch with a new target for what it conducts
 abbrev pub aim_switch : Element → ℕ → Conduct → ElementState → ElementState
 aim_switch e now target s =
-    record s { switch_due = retargeted same_conduct s.on s.switch_due target (due now e.delays (switch_value target)) }
+    record s { switch_due = pending_after same_conduct s.on s.switch_due target (due now e.delays (switch_value target)) }
 
 -- the element with these signals at its inputs
 unfoldable pub next_element : Parts → Element → Patch → ℕ → List Signal → ElementState → ElementState

@@ -4,7 +4,7 @@ use Rattle.std.specs.Prelude.{ℕ, ◌+◌, pos, nat_eq, if◌then◌else◌, Li
 use Rattle.level_range.specs.declared.range.Logic.{Logic}
 use Rattle.level_range.specs.Signal.{Signal, undriven, reads, negative_level}
 use Rattle.delay_rule.specs.Delay.{delay_list, delay_among}
-use Rattle.delay_rule.specs.Inertia.{retargeted, same_signal}
+use Rattle.delay_rule.specs.Inertia.{pending_after, same_signal}
 use Rattle.flat_net.specs.declared.kinds.NetKind.{NetKind}
 use Rattle.flat_net.specs.declared.kinds.NetKind.TheVariants.{Wire, And, Or, Tri0, Tri1, Supply0, Supply1, Trireg}
 use Rattle.flat_net.specs.declared.parts.NetPart.{NetPart}
@@ -56,7 +56,7 @@ next_net part now driven signal charge s =
     let at_once = nat_eq part.delays.count 0 in record {
       settled = signal;
       seen = if at_once then signal else s.seen;
-      due = if at_once then None else retargeted same_signal s.seen s.due signal (now + net_delay part (reads signal));
+      due = if at_once then None else pending_after same_signal s.seen s.due signal (now + net_delay part (reads signal));
       charge = charge;
       timer = next_timer part now driven s.timer;
     }

@@ -1,6 +1,6 @@
 ghost use Rattle.std.specs.Prelude.{◌≡◌, ◌∷◌, [], ◌<◌, length, map, fold};
 ghost use Rattle.level_range.specs.Signal.{reads};
-ghost use Rattle.logic_tables.specs.Cells.{cell_of, place_of, only_cell};
+ghost use Rattle.logic_tables.specs.Cells.{cell_of, index_of, only_cell};
 ghost use Rattle.logic_tables.specs.Fold.{gate_value as gate_value_of, Takes};
 ghost use Rattle.cell_step.specs.Readings.{AreNetsOf};
 ghost use Rattle.cell_step.specs.Elements.{input_signals, input_at};
@@ -12,8 +12,8 @@ use level_range::{Logic, read};
 use logic_tables::{FoldKind, Table, and_table, buf_table, not_table, or_table, xor_table};
 
 /// The row or column of a value in a table.
-fn place(value: Logic) -> usize
-    ensures { result ≡ place_of value }
+fn index(value: Logic) -> usize
+    ensures { result ≡ index_of value }
 {
     match value {
         Logic::Zero => 0,
@@ -27,14 +27,14 @@ fn place(value: Logic) -> usize
 fn two_inputs(table: &Table<4, 4>, a: Logic, b: Logic) -> Logic
     ensures { result ≡ cell_of table.now.cells a b }
 {
-    table.at(place(a), place(b))
+    table.at(index(a), index(b))
 }
 
 /// The table of one input at a value.
 fn one_input(table: &Table<4, 1>, pin: Logic) -> Logic
     ensures { result ≡ only_cell table.now.cells pin }
 {
-    table.at(place(pin), 0)
+    table.at(index(pin), 0)
 }
 
 /// What the input pin at a place reads as.

@@ -1,7 +1,7 @@
 ghost use Rattle.std.specs.Prelude.{◌≡◌, IfOk, All, map, length, ◌<◌, ◌≤◌, ◌+◌, ◌^◌};
 ghost use Rattle.level_range.specs.Signal.{reads};
 ghost use Rattle.delay_rule.specs.Delay.{delay_list};
-ghost use Rattle.delay_rule.specs.Inertia.{retargeted, same_signal};
+ghost use Rattle.delay_rule.specs.Inertia.{pending_after, same_signal};
 ghost use Rattle.cell_step.specs.Nets.{net_delay, change_delays as change_delays_of, decay_time as decay_time_of, start_timer as start_timer_of, next_timer as next_timer_of, next_net as next_net_of, net_start as net_start_of};
 
 use crate::lists::NetStateList;
@@ -70,7 +70,7 @@ fn next_timer(part: &NetPart, now: u64, driven: Range, timer: Timer) -> Timer
 fn next_due(part: &NetPart, now: u64, signal: Range, state: NetState) -> Option<Pending<Range>>
     requires { now ≤ 2 ^ 48 }
     ensures { result
-        ≡ retargeted same_signal state.seen state.due signal
+        ≡ pending_after same_signal state.seen state.due signal
         (now + net_delay part.now (reads signal)) }
 {
     retarget(state.seen, state.due, signal, now, &change_delays(part))

@@ -6,7 +6,7 @@ use Rattle.std.specs.Ordering.{int_eq}
 use Rattle.std.proofs.lemmas.Bool.Decides.{Decides-int_eq, Decides-and, Decides-like}
 use Rattle.level_range.specs.Signal.{Signal}
 use Rattle.delay_rule.specs.declared.inertia.Pending.{Pending}
-use Rattle.delay_rule.specs.Inertia.{IsPending, IsRetarget, is_pending, retargeted, same_signal}
+use Rattle.delay_rule.specs.Inertia.{IsPending, IsRetarget, is_pending, pending_after, same_signal}
 
 -- the test answers whether two values are equal
 abbrev pub IsEquality : {V : Type 0} → (V → V → Bool) → Type 0
@@ -36,17 +36,17 @@ module _ {V : Type 0} (present : V) (pending : Option (Pending V)) (target : V) 
   none_cases false true aw eq h = (eq.0 refl, λ w. let e : false ≡ true = aw.1 w in cc)
   none_cases false false aw eq h = absurd (let e : true ≡ false = h in cc)
 
-  pub IsRetarget-retargeted : (same : V → V → Bool) → IsEquality same → (result : Option (Pending V))
-      → result ≡ retargeted same present pending target tick → IsRetarget present pending target tick result
-  IsRetarget-retargeted same law result e =
+  pub IsRetarget-pending_after : (same : V → V → Bool) → IsEquality same → (result : Option (Pending V))
+      → result ≡ pending_after same present pending target tick → IsRetarget present pending target tick result
+  IsRetarget-pending_after same law result e =
       rw e (retarget_cases (is_pending same pending target) (same target present) (Decides-is_pending same law pending target) (law target present))
 
   -- None comes exactly where the target is the present value and isn't pending
-  pub IsNone-retargeted : (same : V → V → Bool) → IsEquality same → (result : Option (Pending V))
-      → result ≡ retargeted same present pending target tick → IsNone result ↔ ((target ≡ present) × ¬ IsPending pending target)
-  IsNone-retargeted same law result e = (
+  pub IsNone-pending_after : (same : V → V → Bool) → IsEquality same → (result : Option (Pending V))
+      → result ≡ pending_after same present pending target tick → IsNone result ↔ ((target ≡ present) × ¬ IsPending pending target)
+  IsNone-pending_after same law result e = (
     rw e (none_cases (is_pending same pending target) (same target present) (Decides-is_pending same law pending target) (law target present)),
-    λ w. rw ((IsRetarget-retargeted same law result e).cancels w.1 w.0) refl,
+    λ w. rw ((IsRetarget-pending_after same law result e).cancels w.1 w.0) refl,
   )
 
 signal-of : (l h m n : ℤ) → l ≡ m → h ≡ n → (let s : Signal = record { lo = l; hi = h } in s) ≡ (let s : Signal = record { lo = m; hi = n } in s)

@@ -24,8 +24,8 @@ is_pending same None v = false
 is_pending same (Some p) v = same p.value v
 
 -- what is pending after a target, by a test of two values
-abbrev pub retargeted : {V : Type 0} → (V → V → Bool) → V → Option (Pending V) → V → ℕ → Option (Pending V)
-retargeted same present pending target tick =
+abbrev pub pending_after : {V : Type 0} → (V → V → Bool) → V → Option (Pending V) → V → ℕ → Option (Pending V)
+pending_after same present pending target tick =
     if is_pending same pending target then pending
     else if same target present then None
     else Some (record { value = target; at = tick })

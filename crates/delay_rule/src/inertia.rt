@@ -1,7 +1,7 @@
 ghost use Rattle.std.specs.Prelude.{◌≡◌, ◌≤◌, ◌^◌, ◌↔◌, IsNone};
 ghost use Rattle.level_range.specs.Signal.{reads};
 ghost use Rattle.delay_rule.specs.Delay.{due, switch_value as switch_value_of};
-ghost use Rattle.delay_rule.specs.Inertia.{IsPending, IsRetarget, is_pending, retargeted, same_signal, same_conduct};
+ghost use Rattle.delay_rule.specs.Inertia.{IsPending, IsRetarget, is_pending, pending_after, same_signal, same_conduct};
 
 use crate::choice::pick;
 use crate::delays::Delays;
@@ -32,7 +32,7 @@ fn after_target<V: Copy + PartialEq>(
     target: V,
     at: u64,
 ) -> Option<Pending<V>>
-    ensures { result ≡ retargeted V.eq present pending target at }
+    ensures { result ≡ pending_after V.eq present pending target at }
 {
     if awaits(&pending, &target) {
         pending
@@ -55,7 +55,7 @@ pub fn retarget(
     requires { now ≤ 2 ^ 48 }
     ensures inertia { IsRetarget present pending target (due now delays.now (reads target)) result }
     ensures value { result
-        ≡ retargeted same_signal present pending target (due now delays.now (reads target)) }
+        ≡ pending_after same_signal present pending target (due now delays.now (reads target)) }
     ensures none { IsNone result ↔ ((target ≡ present) × ¬ IsPending pending target) }
 {
     after_target(
@@ -90,7 +90,7 @@ pub fn retarget_switch(
     ensures inertia { IsRetarget present pending target
         (due now delays.now (switch_value_of target)) result }
     ensures value { result
-        ≡ retargeted same_conduct present pending target
+        ≡ pending_after same_conduct present pending target
         (due now delays.now (switch_value_of target)) }
     ensures none { IsNone result ↔ ((target ≡ present) × ¬ IsPending pending target) }
 {

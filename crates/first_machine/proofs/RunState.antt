@@ -3,7 +3,7 @@ use Rattle.std.proofs.Common.{◌≡◌, ℕ, zero, suc, ◌+◌, ◌-◌, ◌<�
 use Rattle.std.specs.Option.{option_map, option_map_or}
 use Rattle.std.proofs.lemmas.Bool.{cases_lt, cases_eq}
 use Rattle.std.proofs.lemmas.List.{append-nil, get_or_default, length-replicate, get_or-replicate, length-map}
-use Rattle.level_range.specs.Signal.{Signal, shown as shown_text}
+use Rattle.level_range.specs.Signal.{Signal, signal_text}
 use Rattle.level_range.specs.declared.range.Logic.{Logic}
 use Rattle.level_range.specs.declared.range.Logic.TheVariants.{X, Z}
 use Rattle.gate_net.specs.Sound.{IsSound, IsLawful, AreNets}
@@ -65,7 +65,7 @@ module _ (limit : ℕ) (netlist : Netlist) (stimulus : Stimulus) where
         forced = replicate (length netlist.inputs) Z;
         shown = start_shown;
         quiet = λ k h. rw (get_or-replicate (length netlist.gates) k X X h) refl;
-        printed_last = λ j. sym (ap (option_map (λ v. shown_text (strong v))) (nothing_at (length netlist.outputs) j));
+        printed_last = λ j. sym (ap (option_map (λ v. signal_text (strong v))) (nothing_at (length netlist.outputs) j));
         in_bound = omega arith;
         text_rest = refl;
         oscillates = refl;

@@ -1,7 +1,7 @@
 -- Strong signals are told apart by their logic values.
 use Rattle.std.proofs.Common.{◌≡◌, true, refl}
 use Rattle.std.specs.Str.{bytes_eq}
-use Rattle.level_range.specs.Signal.{reads, shown}
+use Rattle.level_range.specs.Signal.{reads, signal_text}
 use Rattle.level_range.specs.declared.range.Logic.{Logic}
 use Rattle.level_range.specs.declared.range.Logic.TheVariants.{Zero, One, X, Z}
 use Rattle.first_machine.specs.Machine.{strong}
@@ -32,23 +32,23 @@ same_signal-strong Z One = refl
 same_signal-strong Z X = refl
 same_signal-strong Z Z = refl
 
-pub bytes_eq-shown : (a b : Logic) → bytes_eq (shown (strong a)) (shown (strong b)) ≡ same_logic a b
-bytes_eq-shown Zero Zero = refl
-bytes_eq-shown Zero One = refl
-bytes_eq-shown Zero X = refl
-bytes_eq-shown Zero Z = refl
-bytes_eq-shown One Zero = refl
-bytes_eq-shown One One = refl
-bytes_eq-shown One X = refl
-bytes_eq-shown One Z = refl
-bytes_eq-shown X Zero = refl
-bytes_eq-shown X One = refl
-bytes_eq-shown X X = refl
-bytes_eq-shown X Z = refl
-bytes_eq-shown Z Zero = refl
-bytes_eq-shown Z One = refl
-bytes_eq-shown Z X = refl
-bytes_eq-shown Z Z = refl
+pub bytes_eq-signal_text : (a b : Logic) → bytes_eq (signal_text (strong a)) (signal_text (strong b)) ≡ same_logic a b
+bytes_eq-signal_text Zero Zero = refl
+bytes_eq-signal_text Zero One = refl
+bytes_eq-signal_text Zero X = refl
+bytes_eq-signal_text Zero Z = refl
+bytes_eq-signal_text One Zero = refl
+bytes_eq-signal_text One One = refl
+bytes_eq-signal_text One X = refl
+bytes_eq-signal_text One Z = refl
+bytes_eq-signal_text X Zero = refl
+bytes_eq-signal_text X One = refl
+bytes_eq-signal_text X X = refl
+bytes_eq-signal_text X Z = refl
+bytes_eq-signal_text Z Zero = refl
+bytes_eq-signal_text Z One = refl
+bytes_eq-signal_text Z X = refl
+bytes_eq-signal_text Z Z = refl
 
 pub same_logic-same : (a : Logic) → same_logic a a ≡ true
 same_logic-same Zero = refl

@@ -5,14 +5,14 @@ use Rattle.std.specs.List.{flat_map, range_with_len}
 use Rattle.std.proofs.lemmas.Bool.{cases_lt}
 use Rattle.std.proofs.lemmas.List.{append-nil, get_or_past}
 use Rattle.std.proofs.lemmas.List.FromFn.{length-map-range_with_len, get_or-map-range_with_len}
-use Rattle.level_range.specs.Signal.{shown}
+use Rattle.level_range.specs.Signal.{signal_text}
 use Rattle.level_range.specs.declared.range.Logic.{Logic}
 use Rattle.gate_net.specs.declared.netlist.Netlist.{Netlist}
 use Rattle.first_machine.specs.Machine.{Machine, NetState, strong}
 use Rattle.first_machine.specs.Shown.{logic_at}
 use Rattle.first_machine.specs.Trace.{output_at, name_of, text_at, is_printed, line_at, printed_after}
 use Rattle.first_machine.specs.PrintedPlaces.{is_last, line_of, ArePrinted, IsStep}
-use Rattle.first_machine.proofs.Signals.{bytes_eq-shown}
+use Rattle.first_machine.proofs.Signals.{bytes_eq-signal_text}
 
 -- one more place of a range
 pub flat_map_range_more : {X : Type 0} (f : ℕ → List X) (a n : ℕ) → flat_map f (range_with_len a (n + 1)) ≡ flat_map f (range_with_len a n) ++ f (a + n)
@@ -23,19 +23,19 @@ flat_map_range_more f a (suc n) =
     let more : suc n + 1 ≡ suc (n + 1) = omega arith in
     rw more (ap (λ (xs : List _). f a ++ xs) tail ∙ sym (append_assoc (f a) (flat_map f (range_with_len (a + 1) n)) (f ((a + 1) + n))) ∙ ap (λ (k : ℕ). (f a ++ flat_map f (range_with_len (a + 1) n)) ++ f k) at)
 
-is_printed-shown : (last : Option Logic) (value : Logic) → is_printed (option_map (λ v. shown (strong v)) last) (shown (strong value)) ≡ is_last last value
-is_printed-shown None value = refl
-is_printed-shown (Some last) value = bytes_eq-shown last value
+is_printed-signal_text : (last : Option Logic) (value : Logic) → is_printed (option_map (λ v. signal_text (strong v)) last) (signal_text (strong value)) ≡ is_last last value
+is_printed-signal_text None value = refl
+is_printed-signal_text (Some last) value = bytes_eq-signal_text last value
 
 pub text_is : (netlist : Netlist) (tick : ℕ) (seen : List Logic) (printed : List (Option Logic)) (m : Machine) (last : List (Option (List ℕ))) (j : ℕ) → IsStep netlist tick seen printed m last → output_at netlist j < length netlist.names
-    → text_at netlist m j ≡ shown (strong (logic_at seen (output_at netlist j)))
-text_is netlist tick seen printed m last j step h = ap (λ (s : NetState). shown s.seen) (step.nets (output_at netlist j) h)
+    → text_at netlist m j ≡ signal_text (strong (logic_at seen (output_at netlist j)))
+text_is netlist tick seen printed m last j step h = ap (λ (s : NetState). signal_text s.seen) (step.nets (output_at netlist j) h)
 
 -- the line of a place
 pub line_is : (netlist : Netlist) (tick : ℕ) (seen : List Logic) (printed : List (Option Logic)) (m : Machine) (last : List (Option (List ℕ))) (j : ℕ) → IsStep netlist tick seen printed m last → output_at netlist j < length netlist.names
     → line_at netlist m last j ≡ line_of (get_or printed j None) tick (name_of netlist (output_at netlist j)) (logic_at seen (output_at netlist j))
 line_is netlist tick seen printed m last j step h =
-    rw (text_is netlist tick seen printed m last j step h, step.texts j, step.time, is_printed-shown (get_or printed j None) (logic_at seen (output_at netlist j))) refl
+    rw (text_is netlist tick seen printed m last j step h, step.texts j, step.time, is_printed-signal_text (get_or printed j None) (logic_at seen (output_at netlist j))) refl
 
 -- what was printed last, once each place has its value
 pub printed_is : (netlist : Netlist) (tick : ℕ) (seen : List Logic) (printed now : List (Option Logic)) (m : Machine) (last : List (Option (List ℕ))) → IsStep netlist tick seen printed m last
@@ -46,10 +46,10 @@ printed_is netlist tick seen printed now m last step len in_range values j =
       | inl h ↦
           get_or-map-range_with_len (λ (k : ℕ). Some (text_at netlist m k)) 0 (length netlist.outputs) j j None h (omega arith)
           ∙ ap (λ (t : List ℕ). Some t) (text_is netlist tick seen printed m last j step (in_range j h))
-          ∙ sym (ap (option_map (λ v. shown (strong v))) (values j h))
+          ∙ sym (ap (option_map (λ v. signal_text (strong v))) (values j h))
       | inr h ↦
           get_or_past (printed_after netlist m) j None (omega (arith, length-map-range_with_len (λ (k : ℕ). Some (text_at netlist m k)) 0 (length netlist.outputs)))
-          ∙ sym (ap (option_map (λ v. shown (strong v))) (get_or_past now j None (omega arith)))
+          ∙ sym (ap (option_map (λ v. signal_text (strong v))) (get_or_past now j None (omega arith)))
     ]
 
 -- a step of the loop over the places

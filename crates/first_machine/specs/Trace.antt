@@ -3,7 +3,7 @@ use Rattle.std.specs.Prelude.{ℕ, Bool, false, List, [], ◌∷◌, ◌++◌, l
 use Rattle.std.specs.Fmt.{decimal}
 use Rattle.std.specs.List.{flat_map, range_with_len}
 use Rattle.std.specs.Str.{bytes_eq}
-use Rattle.level_range.specs.Signal.{shown}
+use Rattle.level_range.specs.Signal.{signal_text}
 use Rattle.gate_net.specs.declared.netlist.Netlist.{Netlist}
 use Rattle.first_machine.specs.Machine.{Machine, net_at}
 
@@ -19,7 +19,7 @@ abbrev pub name_of : Netlist → ℕ → List ℕ
 name_of netlist n = slice_index_or netlist.names n []
 
 abbrev pub text_at : Netlist → Machine → ℕ → List ℕ
-text_at netlist m j = shown (net_at m (output_at netlist j)).seen
+text_at netlist m j = signal_text (net_at m (output_at netlist j)).seen
 
 -- whether a place's last printed text is this one
 abbrev pub is_printed : Option (List ℕ) → List ℕ → Bool

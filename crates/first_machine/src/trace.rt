@@ -1,7 +1,7 @@
 //! The text of a trace.
 
 ghost use Rattle.std.specs.Prelude.{◌≡◌, ◌++◌, List, ℕ, length, not, OnOk, Option};
-ghost use Rattle.level_range.specs.Signal.{shown};
+ghost use Rattle.level_range.specs.Signal.{signal_text};
 ghost use Rattle.gate_net.specs.Sound.{AreNets};
 ghost use Rattle.first_machine.specs.Machine.{Machine, strong};
 ghost use Rattle.first_machine.specs.Trace.{trace_line, step_text, printed_after};
@@ -15,7 +15,7 @@ use std::alloc::AllocError;
 
 /// A line for a net: the tick, its name and what it shows.
 fn push_line(text: &mut Vec<u8>, tick: u64, name: &[u8], value: Logic) -> Result<(), AllocError>
-    ensures { OnOk result (text.new.items ≡ text.old.items ++ trace_line tick name.now (shown (strong value))) }
+    ensures { OnOk result (text.new.items ≡ text.old.items ++ trace_line tick name.now (signal_text (strong value))) }
 {
     let mut buffer = Buffer::new();
     text.extend_from_slice(buffer.format(tick).as_bytes())?;

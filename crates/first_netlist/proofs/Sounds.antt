@@ -9,7 +9,7 @@ use Rattle.std.proofs.lemmas.Option.{cond_some}
 use Rattle.gate_net.specs.Sound.{AreNets, AreApart, IsGate, IsSound, driven_nets}
 use Rattle.gate_net.specs.declared.netlist.Gate.{Gate}
 use Rattle.gate_net.specs.declared.netlist.Netlist.{Netlist}
-use Rattle.name_table.specs.Names.{is_among, is_distinct, place_of}
+use Rattle.name_table.specs.Names.{is_among, is_distinct, index_of}
 use Rattle.first_netlist.specs.declared.tree.Instance.{Instance}
 use Rattle.std.specs.Prelude.{IfOk, IsTrue}
 use Rattle.first_netlist.specs.declared.fault.NetlistFault.{NetlistFault}
@@ -44,24 +44,24 @@ places_below count k others (name ∷ names) le = by (is_among name others) (pla
     by true rest = AreNets-cons count k (places_from (suc k) others names) (omega arith) rest
     by false rest = rest
 
-each_below : (nets names : List (List ℕ)) (ks : List ℕ) → each (λ name. place_of name nets) names ≡ Some ks → AreNets (length nets) ks
+each_below : (nets names : List (List ℕ)) (ks : List ℕ) → each (λ name. index_of name nets) names ≡ Some ks → AreNets (length nets) ks
 each_below nets [] ks e = subst (λ (ns : List ℕ). AreNets (length nets) ns) (some_is [] ks e) (λ k lt. absurd (omega arith))
 each_below nets (name ∷ names) ks e =
-    let a = bind_some (place_of name nets) (λ first. each (λ name. place_of name nets) names >>= λ others. Some (first ∷ others)) ks e in
-    let b = bind_some (each (λ name. place_of name nets) names) (λ others. Some (a.0 ∷ others)) ks a.2 in
+    let a = bind_some (index_of name nets) (λ first. each (λ name. index_of name nets) names >>= λ others. Some (first ∷ others)) ks e in
+    let b = bind_some (each (λ name. index_of name nets) names) (λ others. Some (a.0 ∷ others)) ks a.2 in
     subst (λ (ns : List ℕ). AreNets (length nets) ns) (some_is (a.0 ∷ b.0) ks b.2) (AreNets-cons (length nets) a.0 b.0 (place_within name nets a.0 a.1) (each_below nets names b.0 b.1))
 
 inputs_below : (nets names : List (List ℕ)) (ks : List ℕ) → inputs_at nets names ≡ Some ks → AreNets (length nets) ks × (0 < length ks)
 unfolding inputs_at
 inputs_below nets names ks e =
-    let a = bind_some (each (λ name. place_of name nets) names) (λ inputs. cond (ltb 0 (length inputs)) (Some inputs) None) ks e in
+    let a = bind_some (each (λ name. index_of name nets) names) (λ inputs. cond (ltb 0 (length inputs)) (Some inputs) None) ks e in
     let g = cond_some (ltb 0 (length a.0)) a.0 ks a.2 in
     subst (λ (ns : List ℕ). AreNets (length nets) ns × (0 < length ns)) g.1 (each_below nets names a.0 a.1, ltb-true 0 (length a.0) g.0)
 
 gate_below : (nets : List (List ℕ)) (instance : Instance) (gate : Gate) → gate_of nets instance ≡ Some gate → IsGate (length nets) gate
 unfolding gate_of
 gate_below nets instance gate e =
-    let a = bind_some (place_of instance.output nets) (λ output. inputs_at nets instance.inputs >>= λ inputs. Some (record { output = output; inputs = inputs })) gate e in
+    let a = bind_some (index_of instance.output nets) (λ output. inputs_at nets instance.inputs >>= λ inputs. Some (record { output = output; inputs = inputs })) gate e in
     let b = bind_some (inputs_at nets instance.inputs) (λ inputs. Some (record { output = a.0; inputs = inputs })) gate a.2 in
     let made : Gate = record { output = a.0; inputs = b.0 } in
     let within = inputs_below nets instance.inputs b.0 b.1 in

@@ -4,7 +4,7 @@ use Rattle.std.specs.List.{flat_map, list_all, list_any}
 use Rattle.gate_net.specs.Sound.{driven_nets}
 use Rattle.gate_net.specs.declared.netlist.Gate.{Gate}
 use Rattle.gate_net.specs.declared.netlist.Netlist.{Netlist}
-use Rattle.name_table.specs.Names.{is_among, place_of, is_distinct}
+use Rattle.name_table.specs.Names.{is_among, index_of, is_distinct}
 use Rattle.first_netlist.specs.declared.tree.Instance.{Instance}
 use Rattle.first_netlist.specs.Steps.{◌>>=◌}
 use Rattle.first_netlist.specs.Declarations.{Declarations}
@@ -83,13 +83,13 @@ ports_of d = do
 -- the places of a gate's inputs, where all of them are nets, and there is one
 unfoldable pub inputs_at : List (List ℕ) → List (List ℕ) → Option (List ℕ)
 inputs_at nets names = do
-  inputs ← each (λ name. place_of name nets) names
+  inputs ← each (λ name. index_of name nets) names
   if nat_lt 0 (length inputs) then Some inputs else None
 
 -- a gate by the places of its names
 unfoldable pub gate_of : List (List ℕ) → Instance → Option Gate
 gate_of nets gate = do
-  output ← place_of gate.output nets
+  output ← index_of gate.output nets
   inputs ← inputs_at nets gate.inputs
   Some (record { output = output; inputs = inputs })
 

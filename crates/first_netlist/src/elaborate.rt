@@ -1,7 +1,7 @@
 //! From declarations to a netlist.
 ghost use Rattle.std.specs.Prelude.{◌≡◌, ◌≤◌, ◌<◌, ◌^◌, ◌++◌, length, IfOk};
 ghost use Rattle.gate_net.specs.Sound.{driven_nets};
-ghost use Rattle.name_table.specs.Names.{place_of};
+ghost use Rattle.name_table.specs.Names.{index_of};
 ghost use Rattle.first_netlist.specs.Steps.{Gives};
 ghost use Rattle.first_netlist.specs.Declarations.{declared};
 ghost use Rattle.first_netlist.specs.Meaning.{limit, each, net_names, names_besides, instance_names, nets_of, ports_agree, places_from, ports_of, inputs_at, gate_of, is_apart, meaning};
@@ -23,7 +23,7 @@ const LIMIT: usize = 1_048_576;
 /// The place of a name in the table.
 fn net_at(nets: &NameTable, name: &Bytes) -> Result<u32, NetlistFault>
     requires { length nets.now ≤ limit }
-    ensures { Gives (λ net. net) result (place_of name.now nets.now) }
+    ensures { Gives (λ net. net) result (index_of name.now nets.now) }
 {
     match nets.find(name.as_slice()) {
         Some(place) => Ok(place as u32),
@@ -34,7 +34,7 @@ fn net_at(nets: &NameTable, name: &Bytes) -> Result<u32, NetlistFault>
 /// The places of the names in the table.
 fn nets_at(alloc: Global, nets: &NameTable, names: &[Bytes]) -> Result<Vec<u32>, NetlistFault>
     requires { length nets.now ≤ limit }
-    ensures { Gives (λ places. places.items) result (each (λ name. place_of name nets.now) names.now) }
+    ensures { Gives (λ places. places.items) result (each (λ name. index_of name nets.now) names.now) }
 {
     let mut places = Vec::new(alloc);
     for name in names {

@@ -9,7 +9,7 @@ use Rattle.std.proofs.lemmas.Slice.Eq.{bytes_eq-Decides}
 use Rattle.std.proofs.lemmas.List.{get_or-map, get_or-take, length-map, length-take, map_more, get_or_read}
 use Rattle.gate_net.specs.declared.netlist.Netlist.{Netlist}
 use Rattle.gate_net.specs.Sound.{IsSound}
-use Rattle.name_table.specs.Names.{same_name, is_among, is_distinct, place_of}
+use Rattle.name_table.specs.Names.{same_name, is_among, is_distinct, index_of}
 use Rattle.name_table.proofs.Found.{is_distinct-push}
 use Rattle.first_vectors.specs.Fields.{◌>>=◌, fields_of, name_in}
 use Rattle.first_vectors.specs.Reading.{name_of, input_names, input_named, inputs_named, listed}
@@ -75,36 +75,36 @@ below_more (Some k) place n below e =
     let same : suc k ≡ place = cc in
     omega (arith, below k refl)
 
-place_below : (name : List ℕ) (names : List (List ℕ)) (place : ℕ) → place_of name names ≡ Some place → place < length names
+place_below : (name : List ℕ) (names : List (List ℕ)) (place : ℕ) → index_of name names ≡ Some place → place < length names
 place_below name [] place e = absurd cc
 place_below name (other ∷ names) place e =
     elim (cases_Bool (bytes_eq name other)) [
-      | inl same ↦ (let first : cond true (Some 0) (option_map (λ k. suc k) (place_of name names)) ≡ Some place = rw same at e in let zero' : 0 ≡ place = cc in omega arith)
-      | inr apart ↦ (let later : cond false (Some 0) (option_map (λ k. suc k) (place_of name names)) ≡ Some place = rw apart at e in below_more (place_of name names) place (length names) (place_below name names) later)
+      | inl same ↦ (let first : cond true (Some 0) (option_map (λ k. suc k) (index_of name names)) ≡ Some place = rw same at e in let zero' : 0 ≡ place = cc in omega arith)
+      | inr apart ↦ (let later : cond false (Some 0) (option_map (λ k. suc k) (index_of name names)) ≡ Some place = rw apart at e in below_more (index_of name names) place (length names) (place_below name names) later)
     ]
 
 shifted : (net : ℕ) (nets : List ℕ) (o : Option ℕ) → option_map (λ k. get_or (net ∷ nets) k 0) (option_map (λ k. suc k) o) ≡ option_map (λ k. get_or nets k 0) o
 shifted net nets None = refl
 shifted net nets (Some k) = refl
 
-find_at_place : (f : ℕ → List ℕ) (name : List ℕ) (nets : List ℕ) → find (λ net. bytes_eq name (f net)) nets ≡ option_map (λ k. get_or nets k 0) (place_of name (map f nets))
+find_at_place : (f : ℕ → List ℕ) (name : List ℕ) (nets : List ℕ) → find (λ net. bytes_eq name (f net)) nets ≡ option_map (λ k. get_or nets k 0) (index_of name (map f nets))
 find_at_place f name [] = refl
 find_at_place f name (net ∷ nets) =
     elim (cases_Bool (bytes_eq name (f net))) [
       | inl e ↦ rw e refl
-      | inr e ↦ rw e (find_at_place f name nets ∙ sym (shifted net nets (place_of name (map f nets))))
+      | inr e ↦ rw e (find_at_place f name nets ∙ sym (shifted net nets (index_of name (map f nets))))
     ]
 
-pub found : (netlist : Netlist) (name : List ℕ) (table : List (List ℕ)) (place : ℕ) → table ≡ input_names netlist → place_of name table ≡ Some place → (place < length netlist.inputs) × (Some (get_or netlist.inputs place 0) ≡ input_named netlist name)
+pub found : (netlist : Netlist) (name : List ℕ) (table : List (List ℕ)) (place : ℕ) → table ≡ input_names netlist → index_of name table ≡ Some place → (place < length netlist.inputs) × (Some (get_or netlist.inputs place 0) ≡ input_named netlist name)
 unfolding input_named
 found netlist name table place is e =
-    let at : place_of name (input_names netlist) ≡ Some place = rw (← is) e in
+    let at : index_of name (input_names netlist) ≡ Some place = rw (← is) e in
     (omega (arith, place_below name (input_names netlist) place at, length-map netlist.inputs (name_of netlist)), sym (find_at_place (name_of netlist) name netlist.inputs ∙ ap (option_map (λ k. get_or netlist.inputs k 0)) at))
 
-pub not_found : (netlist : Netlist) (name : List ℕ) (table : List (List ℕ)) → table ≡ input_names netlist → place_of name table ≡ None → None ≡ input_named netlist name
+pub not_found : (netlist : Netlist) (name : List ℕ) (table : List (List ℕ)) → table ≡ input_names netlist → index_of name table ≡ None → None ≡ input_named netlist name
 unfolding input_named
 not_found netlist name table is e =
-    let at : place_of name (input_names netlist) ≡ None = rw (← is) e in
+    let at : index_of name (input_names netlist) ≡ None = rw (← is) e in
     sym (find_at_place (name_of netlist) name netlist.inputs ∙ ap (option_map (λ k. get_or netlist.inputs k 0)) at)
 
 -- ---- the names of a line

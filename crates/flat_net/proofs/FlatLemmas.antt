@@ -4,7 +4,7 @@ use Rattle.std.specs.Prelude.{Option, slice_get, if◌then◌else◌}
 use Rattle.std.specs.Option.{option_map}
 use Rattle.std.proofs.lemmas.Option.{slice_get_within, slice_get-get_or}
 use Rattle.indexmap.proofs.IndexTableLemmas.Probe.{pigeonhole}
-use Rattle.name_table.specs.Names.{place_of, same_name}
+use Rattle.name_table.specs.Names.{index_of, same_name}
 use Rattle.flat_net.specs.declared.parts.NetPart.{NetPart}
 use Rattle.flat_net.specs.declared.parts.Element.{Element}
 use Rattle.flat_net.specs.declared.parts.Island.{Island}
@@ -58,12 +58,12 @@ within_by n true rest h place e = let f : 0 ≡ place = cc in omega arith
 within_by n false None h place e = absurd (let f : None ≡ Some place = e in cc)
 within_by n false (Some k) h place e = let f : suc k ≡ place = cc in let lt : k < n = h k refl in omega arith
 
-pub nets_found-place : (finds : List Find) (name : List ℕ) → nets_found finds name ≡ nets_at finds (place_of name (map (λ (found : Find). found.name) finds))
+pub nets_found-place : (finds : List Find) (name : List ℕ) → nets_found finds name ≡ nets_at finds (index_of name (map (λ (found : Find). found.name) finds))
 nets_found-place [] name = refl
 nets_found-place (found ∷ finds) name =
-    found_by found finds (nets_found finds name) (place_of name (map (λ (found : Find). found.name) finds)) (same_name name found.name) (nets_found-place finds name)
+    found_by found finds (nets_found finds name) (index_of name (map (λ (found : Find). found.name) finds)) (same_name name found.name) (nets_found-place finds name)
 
 -- a name that is there stands within the list
-pub place_of-within : (name : List ℕ) (names : List (List ℕ)) (place : ℕ) → place_of name names ≡ Some place → place < length names
-place_of-within name [] place e = absurd (let f : None ≡ Some place = e in cc)
-place_of-within name (other ∷ names) place e = within_by (length names) (same_name name other) (place_of name names) (λ k. place_of-within name names k) place e
+pub index_of-within : (name : List ℕ) (names : List (List ℕ)) (place : ℕ) → index_of name names ≡ Some place → place < length names
+index_of-within name [] place e = absurd (let f : None ≡ Some place = e in cc)
+index_of-within name (other ∷ names) place e = within_by (length names) (same_name name other) (index_of name names) (λ k. index_of-within name names k) place e

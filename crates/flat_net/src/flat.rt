@@ -1,5 +1,5 @@
 ghost use Rattle.std.specs.Prelude.{◌≡◌, ◌<◌, IfOk, length, map, replicate, slice_get};
-ghost use Rattle.name_table.specs.Names.{place_of};
+ghost use Rattle.name_table.specs.Names.{index_of};
 ghost use Rattle.flat_net.specs.Lists.{AreDistinct};
 ghost use Rattle.flat_net.specs.Names.{nets_at, nets_found};
 ghost use Rattle.flat_net.specs.Soundness.{IsAscii};
@@ -175,7 +175,7 @@ impl Flat {
 
     /// The element of a name. None where no element has it.
     pub fn element_of(&self, name: &str) -> Option<u32>
-        ensures { result ≡ place_of name.now self.now.parts.element_names }
+        ensures { result ≡ index_of name.now self.now.parts.element_names }
     {
         let place = self.element_table.find(name.as_bytes())?;
         Some(place as u32)

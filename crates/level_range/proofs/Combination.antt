@@ -268,7 +268,7 @@ IsCombination-only kind signals s all is =
 combination_of-bounds : (kind : Kind) (signals : List Signal) → All HasSome signals → combination_of kind signals ≡ bounds_of kind signals
 combination_of-bounds kind signals all = IsCombination-only kind signals _ all (combination_of-is kind signals all)
 
-joined-signal : (kind : Kind) (a b : Signal) → IsSignal a → IsSignal b → IsSignal (join_of kind a b)
+pub joined-signal : (kind : Kind) (a b : Signal) → IsSignal a → IsSignal b → IsSignal (join_of kind a b)
 joined-signal kind a b is_a is_b = record {
   low = lower_of-low kind _ _ _ is_a.low is_b.low;
   order = joined-some kind a b is_a.order is_b.order;

@@ -48,8 +48,8 @@ strengths a b = if nat_eq a b then mnemonic a else (48 + a) ∷ (48 + b) ∷ []
 -- then its least. X prints the greatest strength of value 0 and then that of value 1, whichever of the two is greater.
 -- L and H, from 0 to levels of value 0 and of value 1, print the greatest strength. How a range prints is this
 -- project's own.
-abbrev pub shown : Signal → List ℕ
-shown s =
+abbrev pub signal_text : Signal → List ℕ
+signal_text s =
     if int_lt s.hi (pos 0) then strengths (unsigned_abs s.lo) (unsigned_abs s.hi) ++ codes "0"
     else if int_lt (pos 0) s.lo then strengths (unsigned_abs s.hi) (unsigned_abs s.lo) ++ codes "1"
     else if int_lt s.lo (pos 0) then

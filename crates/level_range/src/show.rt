@@ -1,5 +1,5 @@
 ghost use Rattle.std.specs.Prelude.{◌≡◌, ◌≤◌, ◌++◌};
-ghost use Rattle.level_range.specs.Signal.{mnemonic as letters_of, strengths as strengths_of, shown};
+ghost use Rattle.level_range.specs.Signal.{mnemonic as letters_of, strengths as strengths_of, signal_text};
 
 use crate::range::Range;
 
@@ -36,7 +36,7 @@ fn strengths(a: u8, b: u8) -> [u8; 2]
 ///
 /// How a signal with a range prints is this project's own.
 pub fn percent_v(a: Range) -> [u8; 3]
-    ensures { result ≡ shown a }
+    ensures { result ≡ signal_text a }
 {
     let lo = a.lo.unsigned_abs();
     let hi = a.hi.unsigned_abs();

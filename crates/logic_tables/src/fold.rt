@@ -5,7 +5,7 @@ ghost use Rattle.logic_tables.specs.TableFold.{table_fold};
 
 use crate::gates::{and_table, buf_table, not_table, or_table, xor_table};
 use crate::kinds::FoldKind;
-use crate::table::{Table, place};
+use crate::table::{Table, index};
 use level_range::Logic;
 
 /// The table of two inputs folded over the pins, from `unit`.
@@ -23,14 +23,14 @@ fn fold_pins(table: &Table<4, 4>, unit: Logic, pins: &[Logic]) -> Logic
 fn two_inputs(table: &Table<4, 4>, a: Logic, b: Logic) -> Logic
     ensures { result ≡ cell_of table.now.cells a b }
 {
-    table.at(place(a), place(b))
+    table.at(index(a), index(b))
 }
 
 /// The table of one input at a value.
 fn one_input(table: &Table<4, 1>, pin: Logic) -> Logic
     ensures { result ≡ only_cell table.now.cells pin }
 {
-    table.at(place(pin), 0)
+    table.at(index(pin), 0)
 }
 
 /// The inverted value.

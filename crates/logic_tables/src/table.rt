@@ -1,5 +1,5 @@
 ghost use Rattle.std.specs.Prelude.{◌≡◌, ◌<◌, Some, slice_get};
-ghost use Rattle.logic_tables.specs.Cells.{place_of, cell_at};
+ghost use Rattle.logic_tables.specs.Cells.{index_of, cell_at};
 
 use level_range::Logic;
 
@@ -29,8 +29,8 @@ fn in_row<const C: usize>(row: &[Logic; C], c: usize) -> Logic
 }
 
 /// The row or column of a value.
-pub fn place(value: Logic) -> usize
-    ensures { result ≡ place_of value }
+pub fn index(value: Logic) -> usize
+    ensures { result ≡ index_of value }
 {
     match value {
         Logic::Zero => 0,

@@ -7,7 +7,7 @@ use Rattle.delay_rule.specs.declared.delays.Delays.{Delays}
 use Rattle.level_range.specs.Combine.{better_high, better_low}
 use Rattle.level_range.specs.Reduce.{reduced_level}
 use Rattle.net_settle.specs.declared.shape.Shape.{Shape}
-use Rattle.net_settle.specs.ByLevels.{take_level, spread, spread_from, settled_bounds, signals_between, settled}
+use Rattle.net_settle.specs.ByLevels.{take_level, spread, spread_from, settled_bounds, signals_between, settled_signals}
 use Rattle.net_settle.specs.Charges.{driven_signals, charged_signals, prefer_driven_signals, island_signals, charges_left}
 use Rattle.flat_net.specs.declared.kinds.Cell.TheVariants.{Island as IslandCell}
 use Rattle.flat_net.specs.declared.kinds.Patch.TheVariants.{NetStuck}

@@ -8,7 +8,7 @@ use Rattle.std.proofs.lemmas.Bool.{cases_lt, lt-ltb, le-ltb, cond-false, and_par
 use Rattle.std.proofs.lemmas.Slice.Eq.{bytes_eq-Decides}
 use Rattle.std.proofs.lemmas.List.{map-append}
 use Rattle.indexmap.specs.IndexSet.{insert_key}
-use Rattle.name_table.specs.Names.{same_name, is_among, place_of, is_distinct}
+use Rattle.name_table.specs.Names.{same_name, is_among, index_of, is_distinct}
 
 -- the bytes of each owned name
 abbrev pub bytes_of : List (Vec ℕ) → List (List ℕ)
@@ -28,10 +28,10 @@ step false place count =
       | inr le ↦ rw (le-ltb place count le, le-ltb (1 + place) (suc count) (omega arith)) refl
     ]
 
-pub place_of-bytes_of : (name : List ℕ) (keys : List (Vec ℕ)) → place_of name (bytes_of keys) ≡ position (λ key. bytes_eq name key.items) keys
-place_of-bytes_of name [] = refl
-place_of-bytes_of name (key ∷ keys) =
-    ap (λ (rest : Option ℕ). cond (bytes_eq name key.items) (Some 0) (option_map (λ k. suc k) rest)) (place_of-bytes_of name keys)
+pub index_of-bytes_of : (name : List ℕ) (keys : List (Vec ℕ)) → index_of name (bytes_of keys) ≡ position (λ key. bytes_eq name key.items) keys
+index_of-bytes_of name [] = refl
+index_of-bytes_of name (key ∷ keys) =
+    ap (λ (rest : Option ℕ). cond (bytes_eq name key.items) (Some 0) (option_map (λ k. suc k) rest)) (index_of-bytes_of name keys)
     ∙ step (bytes_eq name key.items) (position_or_len (λ key. bytes_eq name key.items) keys) (length keys)
 
 same_name-flip : (a b : List ℕ) → same_name a b ≡ false → same_name b a ≡ false

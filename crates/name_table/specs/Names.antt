@@ -12,10 +12,10 @@ abbrev pub is_among : List ℕ → List (List ℕ) → Bool
 is_among name [] = false
 is_among name (other ∷ others) = same_name name other || is_among name others
 
--- the first place, from 0, at which a name stands
-abbrev pub place_of : List ℕ → List (List ℕ) → Option ℕ
-place_of name [] = None
-place_of name (other ∷ others) = if same_name name other then Some 0 else option_map suc (place_of name others)
+-- the index of a name's first entry, from 0
+abbrev pub index_of : List ℕ → List (List ℕ) → Option ℕ
+index_of name [] = None
+index_of name (other ∷ others) = if same_name name other then Some 0 else option_map suc (index_of name others)
 
 -- no name stands twice
 abbrev pub is_distinct : List (List ℕ) → Bool

@@ -2,7 +2,7 @@
 #![tactic(auto)]
 
 ghost use Rattle.std.specs.Prelude.{◌≡◌, ◌↔◌, [], ◌∷◌, ◌++◌, length, not, if◌then◌else◌, IsTrue, IfOk, OnErr};
-ghost use Rattle.name_table.specs.Names.{is_among, is_distinct, place_of};
+ghost use Rattle.name_table.specs.Names.{is_among, is_distinct, index_of};
 
 use byte_lists::{Bytes, NameList};
 use indexmap::IndexSet;
@@ -51,9 +51,9 @@ impl NameTable {
         self.names.is_empty()
     }
 
-    /// The place of a name, counted from 0.
+    /// The index of a name, counted from 0.
     pub fn find(&self, name: &[u8]) -> Option<usize>
-        ensures { result ≡ place_of name.now self.now }
+        ensures { result ≡ index_of name.now self.now }
     {
         self.names.get_index_of(name)
     }

@@ -6,15 +6,15 @@ use Rattle.level_range.specs.declared.range.Conduct.{Conduct}
 use Rattle.level_range.specs.declared.range.Kind.{Kind}
 use Rattle.level_range.specs.Signal.{Signal, IsSignal, undriven}
 use Rattle.net_settle.specs.declared.shape.Link.{Link}
-use Rattle.net_settle.specs.ByLevels.{settled}
+use Rattle.net_settle.specs.ByLevels.{settled_signals}
 use Rattle.net_settle.specs.Charges.{charged_signals, prefer_driven, prefer_driven_signals, signal_at, excludes_zero}
 use Rattle.net_settle.specs.Settling.{AreSettled}
 use Rattle.net_settle.proofs.Laws.{settled-are_settled}
 use Rattle.net_settle.proofs.Listed.{settled-alone, one_list, one_signal, chosen_signals-all}
 
 -- no links, no switches
-without_links : (links : List Link) (on : List Conduct) (own : List Signal) → links ≡ [] → All IsSignal own → settled (zip links on) own ≡ own
-without_links links on own none signals = ap (λ l. settled (zip l on) own) none ∙ settled-alone own signals
+without_links : (links : List Link) (on : List Conduct) (own : List Signal) → links ≡ [] → All IsSignal own → settled_signals (zip links on) own ≡ own
+without_links links on own none signals = ap (λ l. settled_signals (zip l on) own) none ∙ settled-alone own signals
 
 -- one signal for the driven one of the net, whose own signal is read
 pub first_driven : (own before : List Signal) (s : Signal) → length own ≡ 1 → length before ≡ 1 → s ≡ get_or own 0 s → slice_set before 0 s ≡ own
@@ -35,10 +35,10 @@ module _ (links : List Link) (on : List Conduct) (own driven : List Signal) (fir
   first_own : first ≡ signal_at own 0
   first_own = read_one driven first (ap length driven_is ∙ one) first_is ∙ ap (λ l. signal_at l 0) driven_is
 
-  own_settled : settled (zip links on) own ≡ own
+  own_settled : settled_signals (zip links on) own ≡ own
   own_settled = without_links links on own none (one_signal own first one first_signal first_own)
 
-  pub alone-driven : driven ≡ settled (zip links on) own
+  pub alone-driven : driven ≡ settled_signals (zip links on) own
   alone-driven = driven_is ∙ sym own_settled
 
   pub alone-driven_settled : AreSettled (zip links on) own driven
@@ -51,32 +51,32 @@ module _ (links : List Link) (on : List Conduct) (own driven : List Signal) (fir
       (one_charged : length charged ≡ 1)
       (second_is : second ≡ get_or charged 0 second)
       (second_signal : IsSignal second) where
-    charged_settled : settled (zip links on) charged ≡ charged
+    charged_settled : settled_signals (zip links on) charged ≡ charged
     charged_settled =
         without_links links on charged none
         (one_signal charged second one_charged second_signal (read_one charged second one_charged second_is))
 
     all_chosen : (out : List Signal) → length out ≡ 1 → get_or out 0 undriven ≡ prefer_driven (signal_at own 0) (signal_at charged 0) →
-        out ≡ prefer_driven_signals (settled (zip links on) own) (settled (zip links on) (charged_signals kinds levels own charges (settled (zip links on) own)))
+        out ≡ prefer_driven_signals (settled_signals (zip links on) own) (settled_signals (zip links on) (charged_signals kinds levels own charges (settled_signals (zip links on) own)))
     all_chosen out one_out here =
         chosen_signals-all own charged out (one_out ∙ sym one) (λ n lt.
         let z : n ≡ 0 = omega arith in
         let P : ℕ → Type 0 = λ i. get_or out i undriven ≡ prefer_driven (signal_at own i) (signal_at charged i) in
         subst P (sym z) here)
         ∙ ap (λ d. prefer_driven_signals d charged) (sym own_settled)
-        ∙ ap (prefer_driven_signals (settled (zip links on) own)) (sym charged_settled)
-        ∙ ap (λ s. prefer_driven_signals (settled (zip links on) own) (settled (zip links on) s))
+        ∙ ap (prefer_driven_signals (settled_signals (zip links on) own)) (sym charged_settled)
+        ∙ ap (λ s. prefer_driven_signals (settled_signals (zip links on) own) (settled_signals (zip links on) s))
         (charged_is ∙ ap (charged_signals kinds levels own charges) alone-driven)
 
     pub alone-excluded : (out : List Signal) → excludes_zero first ≡ true → out ≡ slice_set charged 0 first →
-        out ≡ prefer_driven_signals (settled (zip links on) own) (settled (zip links on) (charged_signals kinds levels own charges (settled (zip links on) own)))
+        out ≡ prefer_driven_signals (settled_signals (zip links on) own) (settled_signals (zip links on) (charged_signals kinds levels own charges (settled_signals (zip links on) own)))
     alone-excluded out excluded is =
         all_chosen out (ap length is ∙ length-set charged 0 first ∙ one_charged)
         (ap (λ l. get_or l 0 undriven) is ∙ get_or-set_same charged 0 first undriven (omega arith) ∙ first_own
         ∙ ap (λ b. cond b (signal_at own 0) (signal_at charged 0)) (sym excluded ∙ ap excludes_zero first_own))
 
     pub alone-second : (out : List Signal) → excludes_zero first ≡ false → out ≡ charged →
-        out ≡ prefer_driven_signals (settled (zip links on) own) (settled (zip links on) (charged_signals kinds levels own charges (settled (zip links on) own)))
+        out ≡ prefer_driven_signals (settled_signals (zip links on) own) (settled_signals (zip links on) (charged_signals kinds levels own charges (settled_signals (zip links on) own)))
     alone-second out excluded is =
         all_chosen out (ap length is ∙ one_charged)
         (ap (λ l. get_or l 0 undriven) is

@@ -10,7 +10,7 @@ use Rattle.level_range.specs.declared.range.Kind.TheVariants.{Plain, And, Or}
 use Rattle.level_range.specs.Combine.{lower_of, upper_of, join_of}
 use Rattle.level_range.specs.Reduce.{hull_of}
 use Rattle.level_range.proofs.Better.{lower, upper}
-use Rattle.level_range.proofs.Combination.{lower_of-low, upper_of-high, lower_of-upper_of}
+use Rattle.level_range.proofs.Combination.{joined-signal}
 use Rattle.level_range.proofs.Reduction.{undriven-is}
 use Rattle.net_settle.specs.declared.side.Side.{Side}
 use Rattle.net_settle.specs.declared.side.Side.TheVariants.{Lower, Upper}
@@ -284,13 +284,6 @@ contribution-signal (suc m) charge driven level is = elim (cases_Bool (excludes_
         let sh = charge-sign Upper (suc m) charge is in
         subst IsSignal (sym (same_signal (wide low high (suc m) charge) _ _ (wide-lower low high m charge sl) (wide-upper low high m charge sh)))
         (by_bounds low high m charge.lo charge.hi le sl sh (charge-order m charge is))
-
-pub joined-signal : (kind : Kind) (a b : Signal) → IsSignal a → IsSignal b → IsSignal (join_of kind a b)
-joined-signal kind a b sa sb = record {
-  low = lower_of-low kind (negsuc 6) a.lo b.lo sa.low sb.low;
-  order = lower_of-upper_of kind a.lo b.lo a.hi b.hi sa.order sb.order;
-  high = upper_of-high kind (pos 7) a.hi b.hi sa.high sb.high;
-}
 
 pub charged-signal : (kind : Kind) (c : ℕ) (own charge driven : Signal) → IsSignal own → IsChargeLevel c → (c ≢ 0 → IsCharge c charge) →
     IsSignal (join_of kind own (contribution c charge driven))

@@ -10,7 +10,7 @@ use Rattle.level_range.proofs.Reduction.{reduced_level-monotone, reduced_level-w
 use Rattle.net_settle.specs.declared.shape.Link.{Link}
 use Rattle.net_settle.specs.declared.side.Side.{Side}
 use Rattle.net_settle.specs.declared.side.Side.TheVariants.{Lower, Upper}
-use Rattle.net_settle.specs.Bounds.{Switch, at, carried, is_favoured}
+use Rattle.net_settle.specs.Bounds.{Switch, at, carried_bound, is_favoured}
 use Rattle.net_settle.specs.Settling.{IsWalk, IsSettled}
 use Rattle.net_settle.specs.Progress.{rank, low_rank, high_rank}
 use Rattle.net_settle.proofs.Walks.{settled-most, bounds-most, has_net}
@@ -103,7 +103,7 @@ not_both : {σ τ : Side} → Opposite σ τ → (v : ℤ) → is_favoured σ v 
 not_both low v a b = grind (arith, ints)
 not_both high v a b = grind (arith, ints)
 
-conducts : {σ τ : Side} → Opposite σ τ → (link : Link) (conduct : Conduct) (u w : ℤ) → carried τ link conduct u ≡ w → is_favoured σ w ≡ true →
+conducts : {σ τ : Side} → Opposite σ τ → (link : Link) (conduct : Conduct) (u w : ℤ) → carried_bound τ link conduct u ≡ w → is_favoured σ w ≡ true →
     (conduct ≡ On) × (w ≡ reduced_level link.resistive u) × (is_favoured σ u ≡ true) × (unsigned_abs w ≤ unsigned_abs u)
 conducts {σ} o link On u w e sign =
     let s = subst (λ (x : ℤ). is_favoured σ x ≡ true) (sym e) sign in
@@ -184,7 +184,7 @@ module _ (switches : List Switch) (own bounds : Side → List ℤ) (nets : ℕ)
           conduct = brings.conduct;
           there = brings.there;
           joins = brings.joins;
-          carries = ap (λ (k : Conduct). carried σ brings.link k (at (bounds σ) m)) c.0;
+          carries = ap (λ (k : Conduct). carried_bound σ brings.link k (at (bounds σ) m)) c.0;
         },
       ))))
 

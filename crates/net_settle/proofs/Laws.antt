@@ -8,7 +8,7 @@ use Rattle.net_settle.specs.declared.side.Side.{Side}
 use Rattle.net_settle.specs.declared.side.Side.TheVariants.{Lower, Upper}
 use Rattle.net_settle.specs.Bounds.{Switch, at, bound_of, bounds_of}
 use Rattle.net_settle.specs.Settling.{IsSettled, AreSettled}
-use Rattle.net_settle.specs.ByLevels.{settled_bounds, signals_between, settled}
+use Rattle.net_settle.specs.ByLevels.{settled_bounds, signals_between, settled_signals}
 use Rattle.net_settle.specs.Charges.{signal_at}
 use Rattle.net_settle.specs.Progress.{rank}
 use Rattle.net_settle.proofs.Signals.{by_side, bounds_of-at, length-bounds_of, signals-most, both_in_order}
@@ -37,8 +37,8 @@ bounds_of-between side lower upper nets low high =
     here Upper k d lt = get_or_default upper k (pos 0) d (omega arith)
 
 pub bounds_of-settled : (side : Side) (switches : List Switch) (own : List Signal) → All IsSignal own →
-    bounds_of side (settled switches own) ≡ settled_bounds side switches (bounds_of side own)
-unfolding settled
+    bounds_of side (settled_signals switches own) ≡ settled_bounds side switches (bounds_of side own)
+unfolding settled_signals
 bounds_of-settled side switches own signals =
     bounds_of-between side (settled_bounds Lower switches (bounds_of Lower own)) (settled_bounds Upper switches (bounds_of Upper own)) (length own)
     ((settled_bounds-settled Lower switches (bounds_of Lower own) (signals-most Lower own signals)).nets ∙ length-bounds_of Lower own)
@@ -51,7 +51,7 @@ bounds_of-settled side switches own signals =
     which Upper = refl
 
 -- what settling by levels gives is settled
-pub settled-are_settled : (switches : List Switch) (own : List Signal) → All IsSignal own → AreSettled switches own (settled switches own)
+pub settled-are_settled : (switches : List Switch) (own : List Signal) → All IsSignal own → AreSettled switches own (settled_signals switches own)
 settled-are_settled switches own signals = record {
   lower = subst (IsSettled Lower switches (bounds_of Lower own)) (sym (bounds_of-settled Lower switches own signals))
       (settled_bounds-settled Lower switches (bounds_of Lower own) (signals-most Lower own signals));
@@ -60,7 +60,7 @@ settled-are_settled switches own signals = record {
 }
 
 -- and no other list is
-pub settled-only : (switches : List Switch) (own signals : List Signal) → All IsSignal own → AreSettled switches own signals → signals ≡ settled switches own
+pub settled-only : (switches : List Switch) (own signals : List Signal) → All IsSignal own → AreSettled switches own signals → signals ≡ settled_signals switches own
 settled-only switches own signals are_signals are =
     signals_between-all (bounds_of Lower signals) (bounds_of Upper signals) (length signals) signals refl
     (λ n lt. same_signal (get_or signals n undriven) _ _ (sym (bounds_of-at Lower signals n)) (sym (bounds_of-at Upper signals n)))
@@ -74,10 +74,10 @@ settled-only switches own signals are_signals are =
         (settled_bounds-settled side switches (bounds_of side own) (signals-most side own are_signals))
 
 -- the signals that settle are signals
-pub settled-signals : (switches : List Switch) (own : List Signal) → All IsSignal own → All IsSignal (settled switches own)
+pub settled-signals : (switches : List Switch) (own : List Signal) → All IsSignal own → All IsSignal (settled_signals switches own)
 settled-signals switches own signals k d lt =
     let are = settled-are_settled switches own signals in
-    let s = settled switches own in
+    let s = settled_signals switches own in
     let inside : k < length s = lt in
     subst IsSignal (get_or_default s k undriven d lt) record {
       low = subst (λ (v : ℤ). negsuc 6 ≤ℤ v) (bounds_of-at Lower s k)

@@ -14,7 +14,7 @@ use Rattle.net_settle.proofs.Walks.{settled_once}
 use Rattle.net_settle.proofs.Rounds.{settled_bounds-settled}
 use Rattle.net_settle.proofs.SameSignal.{same_signal}
 use Rattle.net_settle.proofs.Signals.{bounds_of-at, signals-most}
-use Rattle.net_settle.specs.ByLevels.{signals_between, settled, settled_bounds}
+use Rattle.net_settle.specs.ByLevels.{signals_between, settled_signals, settled_bounds}
 use Rattle.net_settle.specs.Charges.{signal_at, prefer_driven, prefer_driven_signals}
 
 pub length-signals_between : (lower upper : List ℤ) (nets : ℕ) → length (signals_between lower upper nets) ≡ nets
@@ -39,8 +39,8 @@ chosen_signals-all driven second signals long each = fill_by_all _ signals (leng
 -- signals between the bounds that settle are those that settle
 pub settled-between : (switches : List Switch) (own : List Signal) (lower upper : List ℤ) (nets : ℕ) →
     lower ≡ settled_bounds Lower switches (bounds_of Lower own) → upper ≡ settled_bounds Upper switches (bounds_of Upper own) →
-    nets ≡ length own → signals_between lower upper nets ≡ settled switches own
-unfolding settled
+    nets ≡ length own → signals_between lower upper nets ≡ settled_signals switches own
+unfolding settled_signals
 settled-between switches own lower upper nets low high same =
     ap (λ l. signals_between l upper nets) low
     ∙ ap (λ u. signals_between (settled_bounds Lower switches (bounds_of Lower own)) u nets) high
@@ -67,7 +67,7 @@ pub settled_bounds-alone : (side : Side) (own : List ℤ) → ((n : ℕ) → ran
 settled_bounds-alone side own most =
     settled_once side [] own 14 most _ _ (settled_bounds-settled side [] own most) (own-settled side own)
 
-pub settled-alone : (own : List Signal) → All IsSignal own → settled [] own ≡ own
+pub settled-alone : (own : List Signal) → All IsSignal own → settled_signals [] own ≡ own
 settled-alone own signals =
     sym (
     signals_between-all (bounds_of Lower own) (bounds_of Upper own) (length own) own refl

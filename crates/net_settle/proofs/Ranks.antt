@@ -9,7 +9,7 @@ use Rattle.level_range.specs.Reduce.{reduced_level, reduced_strength}
 use Rattle.net_settle.specs.declared.shape.Link.{Link}
 use Rattle.net_settle.specs.declared.side.Side.{Side}
 use Rattle.net_settle.specs.declared.side.Side.TheVariants.{Lower, Upper}
-use Rattle.net_settle.specs.Bounds.{better, is_favoured, favoured, opposed, carried}
+use Rattle.net_settle.specs.Bounds.{better, is_favoured, favoured, opposed, carried_bound}
 use Rattle.net_settle.specs.Progress.{rank}
 
 pub rank-injective : (side : Side) (x y : ℤ) → rank side x ≡ rank side y → x ≡ y
@@ -147,7 +147,7 @@ rank-reduced side resistive v = by_sign side resistive v (signed side v)
         let b = rank-opposed side (suc n) (omega arith) in
         rw (reduced-opposed side resistive n) (omega arith)
 
-pub rank-carried : (side : Side) (link : Link) (conduct : Conduct) (v : ℤ) → rank side (carried side link conduct v) ≤ rank side v
+pub rank-carried : (side : Side) (link : Link) (conduct : Conduct) (v : ℤ) → rank side (carried_bound side link conduct v) ≤ rank side v
 rank-carried side link On v = rank-reduced side link.resistive v
 rank-carried side link Off v = let z = rank-none side in omega arith
 rank-carried side link Unknown v = by_test (is_favoured side v)
@@ -156,7 +156,7 @@ rank-carried side link Unknown v = by_test (is_favoured side v)
     by_test true = rank-reduced side link.resistive v
     by_test false = let z = rank-none side in omega arith
 
-pub carried-none : (side : Side) (link : Link) (conduct : Conduct) → carried side link conduct (pos 0) ≡ pos 0
+pub carried-none : (side : Side) (link : Link) (conduct : Conduct) → carried_bound side link conduct (pos 0) ≡ pos 0
 carried-none side link conduct =
     let h = rank-carried side link conduct (pos 0) in
     let z = rank-none side in

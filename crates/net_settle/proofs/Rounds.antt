@@ -9,7 +9,7 @@ use Rattle.std.proofs.lemmas.Bool.Decides.{Decides-int_eq, not_from_Decides}
 use Rattle.level_range.specs.declared.range.Conduct.{Conduct}
 use Rattle.net_settle.specs.declared.shape.Link.{Link}
 use Rattle.net_settle.specs.declared.side.Side.{Side}
-use Rattle.net_settle.specs.Bounds.{Switch, at, carried, favoured, opposed}
+use Rattle.net_settle.specs.Bounds.{Switch, at, carried_bound, favoured, opposed}
 use Rattle.net_settle.specs.Settling.{Joins, IsSettled}
 use Rattle.net_settle.specs.ByLevels.{take_level, take_own, take_carried, rounds, spread, spread_from, settled_bounds}
 use Rattle.net_settle.specs.Progress.{rank, IsDone, without}
@@ -152,7 +152,7 @@ module _ (side : Side) (switches : List Switch) (own : List ℤ) where
   CarriedIdle : ℤ → List Switch → List ℤ → Type 0
   CarriedIdle v part bounds =
       (link : Link) (conduct : Conduct) (m n : ℕ) → Contains part (link, conduct) → Joins link m n → n < length own
-      → at bounds n ≡ pos 0 → carried side link conduct (at bounds m) ≢ v
+      → at bounds n ≡ pos 0 → carried_bound side link conduct (at bounds m) ≢ v
 
   carried-moves : (r : ℕ) (v : ℤ) (part : List Switch) → ((s : Switch) → Contains part s → Contains switches s) → (bounds : List ℤ) →
       IsDone side switches own (suc r) bounds → rank side v ≡ suc r →
@@ -160,8 +160,8 @@ module _ (side : Side) (switches : List Switch) (own : List ℤ) where
   unfolding Falls CarriedIdle TakesNone
   carried-moves r v [] inside bounds done level = (done, inr (refl, λ link conduct m n (k, lt, _). absurd (omega arith)))
   carried-moves r v ((link, conduct) ∷ part) inside bounds done level =
-      let to : List ℤ → ℤ = λ b. carried side link conduct (at b link.a) in
-      let fro : List ℤ → ℤ = λ b. carried side link conduct (at b link.b) in
+      let to : List ℤ → ℤ = λ b. carried_bound side link conduct (at b link.a) in
+      let fro : List ℤ → ℤ = λ b. carried_bound side link conduct (at b link.b) in
       let first = taken-moves r v link.b to bounds done level (offers bounds link.a link.b (inl (refl, refl))) in
       let there = take_level v link.b (to bounds) bounds in
       let second = taken-moves r v link.a fro there first.0 level (offers there link.b link.a (inr (refl, refl))) in
@@ -171,7 +171,7 @@ module _ (side : Side) (switches : List Switch) (own : List ℤ) where
       (λ b. TakesNone v link.b to b × TakesNone v link.a fro b) bounds there back (λ b x y. (x, y)) first.1 second.1 in
       (rest.0, moves-then (λ b. TakesNone v link.b to b × TakesNone v link.a fro b) (CarriedIdle v part) (CarriedIdle v ((link, conduct) ∷ part)) bounds back _ both two rest.1)
     where
-      offers : (b : List ℤ) (m n : ℕ) → Joins link m n → carried side link conduct (at b m) ≡ v → Offered side switches own b n v
+      offers : (b : List ℤ) (m n : ℕ) → Joins link m n → carried_bound side link conduct (at b m) ≡ v → Offered side switches own b n v
       offers b m n joins e = inr (
         m,
         record {
@@ -183,18 +183,18 @@ module _ (side : Side) (switches : List Switch) (own : List ℤ) where
         },
       )
 
-      here : (b : List ℤ) → TakesNone v link.b (λ b. carried side link conduct (at b link.a)) b →
-          TakesNone v link.a (λ b. carried side link conduct (at b link.b)) b → (m n : ℕ) → n < length own → at b n ≡ pos 0 →
-          Joins link m n → carried side link conduct (at b m) ≢ v
+      here : (b : List ℤ) → TakesNone v link.b (λ b. carried_bound side link conduct (at b link.a)) b →
+          TakesNone v link.a (λ b. carried_bound side link conduct (at b link.b)) b → (m n : ℕ) → n < length own → at b n ≡ pos 0 →
+          Joins link m n → carried_bound side link conduct (at b m) ≢ v
       here b x y m n within none (inl (from, to)) f =
-          x (subst (λ i. i < length own) (sym to) within) (ap (at b) to ∙ none) (ap (λ i. carried side link conduct (at b i)) from ∙ f)
+          x (subst (λ i. i < length own) (sym to) within) (ap (at b) to ∙ none) (ap (λ i. carried_bound side link conduct (at b i)) from ∙ f)
       here b x y m n within none (inr (to, from)) f =
-          y (subst (λ i. i < length own) (sym to) within) (ap (at b) to ∙ none) (ap (λ i. carried side link conduct (at b i)) from ∙ f)
+          y (subst (λ i. i < length own) (sym to) within) (ap (at b) to ∙ none) (ap (λ i. carried_bound side link conduct (at b i)) from ∙ f)
 
-      both : (b : List ℤ) → TakesNone v link.b (λ b. carried side link conduct (at b link.a)) b × TakesNone v link.a (λ b. carried side link conduct (at b link.b)) b →
+      both : (b : List ℤ) → TakesNone v link.b (λ b. carried_bound side link conduct (at b link.a)) b × TakesNone v link.a (λ b. carried_bound side link conduct (at b link.b)) b →
           CarriedIdle v part b → CarriedIdle v ((link, conduct) ∷ part) b
       both b (x, y) z l c m n (zero, lt, e) joins within none =
-          subst (λ (s : Switch). Joins s.0 m n → carried side s.0 s.1 (at b m) ≢ v) e (here b x y m n within none) joins
+          subst (λ (s : Switch). Joins s.0 m n → carried_bound side s.0 s.1 (at b m) ≢ v) e (here b x y m n within none) joins
       both b (x, y) z l c m n (suc k, lt, e) joins within none = z l c m n (k, omega arith, e) joins within none
 
   round : ℤ → List ℤ → List ℤ

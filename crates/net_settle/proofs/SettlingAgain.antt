@@ -14,7 +14,7 @@ use Rattle.net_settle.specs.declared.side.Side.{Side}
 use Rattle.net_settle.specs.declared.side.Side.TheVariants.{Lower, Upper}
 use Rattle.net_settle.specs.Bounds.{Switch, at, bound_of, bounds_of}
 use Rattle.net_settle.specs.Settling.{IsSettled}
-use Rattle.net_settle.specs.ByLevels.{settled}
+use Rattle.net_settle.specs.ByLevels.{settled_signals}
 use Rattle.net_settle.specs.Charges.{signal_at, contribution, charged_signals, prefer_driven, prefer_driven_signals, charge_left, charges_left, switches_of, driven_signals, island_signals}
 use Rattle.net_settle.specs.Conditions.{IsIsland, IsCharge, IsChargeLevel, AreCharges, WiredAlone}
 use Rattle.net_settle.specs.Progress.{rank}
@@ -73,13 +73,13 @@ module _ (shape : Shape) (on : List Conduct) (own charges : List Signal)
   switches = switches_of shape on
 
   abbrev driven : List Signal
-  driven = settled switches own
+  driven = settled_signals switches own
 
   abbrev first : List Signal
   first = charged_signals shape.kinds shape.charge own charges driven
 
   abbrev second : List Signal
-  second = settled switches first
+  second = settled_signals switches first
 
   abbrev left : List Signal
   left = charges_left shape.charge charges (prefer_driven_signals driven second)
@@ -116,8 +116,8 @@ module _ (shape : Shape) (on : List Conduct) (own charges : List Signal)
           (signal_at second n)
       alone ne =
           let none = (wired n ne).1 in inr (
-            ap (λ l. signal_at (settled (zip l on) own) n) none ∙ ap (λ s. signal_at s n) (settled-alone own signals),
-            ap (λ l. signal_at (settled (zip l on) first) n) none ∙ ap (λ s. signal_at s n) (settled-alone first first-signals)
+            ap (λ l. signal_at (settled_signals (zip l on) own) n) none ∙ ap (λ s. signal_at s n) (settled-alone own signals),
+            ap (λ l. signal_at (settled_signals (zip l on) first) n) none ∙ ap (λ s. signal_at s n) (settled-alone first first-signals)
                 ∙ charged-at shape.kinds shape.charge own charges driven n undriven lt,
           )
 

@@ -8,7 +8,7 @@ use Rattle.level_range.specs.declared.range.Conduct.{Conduct}
 use Rattle.level_range.specs.Signal.{Signal}
 use Rattle.net_settle.specs.declared.shape.Link.{Link}
 use Rattle.net_settle.specs.declared.side.Side.{Side}
-use Rattle.net_settle.specs.Bounds.{Switch, at, bound_of, bounds_of, carried}
+use Rattle.net_settle.specs.Bounds.{Switch, at, bound_of, bounds_of, carried_bound}
 use Rattle.net_settle.specs.Settling.{Joins}
 use Rattle.net_settle.specs.ByLevels.{take_level}
 use Rattle.net_settle.specs.Progress.{rank, IsDone, LinkRests, Spreads, Moves, without}
@@ -102,14 +102,14 @@ spreads-then side switches v before between after a b = record {
 -- a net takes what a switch carries to it
 taken-spreads : (side : Side) (switches : List Switch) (v : ℤ) (link : Link) (conduct : Conduct) (m n : ℕ) (bounds : List ℤ) →
     Contains switches (link, conduct) → Joins link m n → v ≢ pos 0 → n < length bounds →
-    Spreads side switches v bounds (take_level v n (carried side link conduct (at bounds m)) bounds)
+    Spreads side switches v bounds (take_level v n (carried_bound side link conduct (at bounds m)) bounds)
 taken-spreads side switches v link conduct m n bounds there joins some inside =
-    let comes = carried side link conduct (at bounds m) in
+    let comes = carried_bound side link conduct (at bounds m) in
     record {
       nets = length-taken v n comes bounds;
       grows = λ k none. taken-grows v n comes bounds some inside k none;
       keeps = λ own r level done.
-          (taken-moves side switches own r v n (λ b. carried side link conduct (at b m)) bounds done level (λ e. inr (
+          (taken-moves side switches own r v n (λ b. carried_bound side link conduct (at b m)) bounds done level (λ e. inr (
             m,
             record {
               link = link;
@@ -123,8 +123,8 @@ taken-spreads side switches v link conduct m n bounds there joins some inside =
 
 module _ (side : Side) (v : ℤ) (link : Link) (conduct : Conduct) (before there after : List ℤ)
     (some : v ≢ pos 0) (a_inside : link.a < length before) (b_inside : link.b < length before)
-    (there_is : there ≡ take_level v link.b (carried side link conduct (at before link.a)) before)
-    (after_is : after ≡ take_level v link.a (carried side link conduct (at there link.b)) there) where
+    (there_is : there ≡ take_level v link.b (carried_bound side link conduct (at before link.a)) before)
+    (after_is : after ≡ take_level v link.a (carried_bound side link conduct (at there link.b)) there) where
   same_nets : length there ≡ length before
   same_nets = ap length there_is ∙ length-taken v link.b _ before
 
@@ -138,7 +138,7 @@ module _ (side : Side) (v : ℤ) (link : Link) (conduct : Conduct) (before there
 
   -- a net took it on the way there
   pub link-moves_there :
-      (at before link.b ≡ pos 0) × (carried side link conduct (at before link.a) ≡ v) → without after < without before
+      (at before link.b ≡ pos 0) × (carried_bound side link conduct (at before link.a) ≡ v) → without after < without before
   link-moves_there (none, is) =
       let e = there_is ∙ taken-takes v link.b _ before none is in
       let f : without there < without before = subst (λ (b : List ℤ). without b < without before) (sym e) (without-set before link.b v b_inside none some) in
@@ -146,7 +146,7 @@ module _ (side : Side) (v : ℤ) (link : Link) (conduct : Conduct) (before there
       omega arith
     where
       fewer : without after ≤ without there
-      fewer = elim (taken_cases v link.a (carried side link conduct (at there link.b)) there) [
+      fewer = elim (taken_cases v link.a (carried_bound side link conduct (at there link.b)) there) [
         | inl (none, _, e) ↦
             let h : without after < without there = subst (λ (b : List ℤ). without b < without there) (sym (after_is ∙ e))
             (without-set there link.a v (let k = same_nets in omega arith) none some) in
@@ -155,8 +155,8 @@ module _ (side : Side) (v : ℤ) (link : Link) (conduct : Conduct) (before there
       ]
 
   -- no net took it on the way there
-  pub link-moves_back : (back : Bool) → (at before link.b ≡ pos 0 → carried side link conduct (at before link.a) ≢ v) →
-      MatchBool back ((at there link.a ≡ pos 0) × (carried side link conduct (at there link.b) ≡ v)) (at there link.a ≡ pos 0 → carried side link conduct (at there link.b) ≢ v) →
+  pub link-moves_back : (back : Bool) → (at before link.b ≡ pos 0 → carried_bound side link conduct (at before link.a) ≢ v) →
+      MatchBool back ((at there link.a ≡ pos 0) × (carried_bound side link conduct (at there link.b) ≡ v)) (at there link.a ≡ pos 0 → carried_bound side link conduct (at there link.b) ≢ v) →
       Moves back (LinkRests side link conduct before v) before after
   link-moves_back true rests (none, is) =
       let s : there ≡ before = there_is ∙ taken-stays v link.b _ before rests in
@@ -170,10 +170,10 @@ module _ (side : Side) (v : ℤ) (link : Link) (conduct : Conduct) (before there
       let e : after ≡ there = after_is ∙ taken-stays v link.a _ there back in (
         e ∙ s,
         λ m n joins inside none. elim joins [
-          | inl (from, to) ↦ λ f. rests (ap (at before) to ∙ none) (ap (λ i. carried side link conduct (at before i)) from ∙ f)
+          | inl (from, to) ↦ λ f. rests (ap (at before) to ∙ none) (ap (λ i. carried_bound side link conduct (at before i)) from ∙ f)
           | inr (to, from) ↦ λ f.
               back (ap (λ b. at b link.a) s ∙ ap (at before) to ∙ none)
-              (ap (λ b. carried side link conduct (at b link.b)) s ∙ ap (λ i. carried side link conduct (at before i)) from ∙ f)
+              (ap (λ b. carried_bound side link conduct (at b link.b)) s ∙ ap (λ i. carried_bound side link conduct (at before i)) from ∙ f)
         ],
       )
 

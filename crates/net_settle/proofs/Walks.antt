@@ -6,7 +6,7 @@ use Rattle.std.proofs.lemmas.Bool.{cases_eq, cases_lt}
 use Rattle.level_range.specs.declared.range.Conduct.{Conduct}
 use Rattle.net_settle.specs.declared.shape.Link.{Link}
 use Rattle.net_settle.specs.declared.side.Side.{Side}
-use Rattle.net_settle.specs.Bounds.{Switch, at, carried}
+use Rattle.net_settle.specs.Bounds.{Switch, at, carried_bound}
 use Rattle.net_settle.specs.Settling.{Joins, Brings, Comes, IsWalk, IsSettled}
 use Rattle.net_settle.specs.Progress.{rank, IsDone}
 use Rattle.net_settle.proofs.Ranks.{rank-none, rank-injective, rank-carried, carried-none, better-from_rank, rank-from_better}
@@ -28,7 +28,7 @@ module _ (side : Side) (switches : List Switch) (own : List ℤ) where
   passes bounds i v none (suc steps) n some (m, brings, walk) =
       let ne : n ≢ i = λ (k : n ≡ i). some (ap (at bounds) k ∙ none) in
       let from : at bounds m ≢ pos 0 = λ (k : at bounds m ≡ pos 0).
-      some (sym brings.carries ∙ ap (carried side brings.link brings.conduct) k ∙ carried-none side brings.link brings.conduct) in
+      some (sym brings.carries ∙ ap (carried_bound side brings.link brings.conduct) k ∙ carried-none side brings.link brings.conduct) in
       let nf : m ≢ i = λ (k : m ≡ i). from (ap (at bounds) k ∙ none) in (
         m,
         record {
@@ -36,7 +36,7 @@ module _ (side : Side) (switches : List Switch) (own : List ℤ) where
           conduct = brings.conduct;
           there = brings.there;
           joins = brings.joins;
-          carries = ap (carried side brings.link brings.conduct) (at-other bounds i m v nf) ∙ brings.carries ∙ sym (at-other bounds i n v ne);
+          carries = ap (carried_bound side brings.link brings.conduct) (at-other bounds i m v nf) ∙ brings.carries ∙ sym (at-other bounds i n v ne);
         },
         passes bounds i v none steps m from walk,
       )
@@ -71,7 +71,7 @@ module _ (side : Side) (switches : List Switch) (own : List ℤ) where
           absurd (omega arith)
       | inr nm ↦
           let f = at-other bounds n m v nm in
-          let lt2 = subst (λ (u : ℤ). suc r < rank side (carried side link conduct u)) f lt in
+          let lt2 = subst (λ (u : ℤ). suc r < rank side (carried_bound side link conduct u)) f lt in
           let h = done.brought link conduct m k there joins in_range lt2 in
           rw f (elim (cases_eq k n) [
             | inl e ↦
@@ -100,7 +100,7 @@ module _ (side : Side) (switches : List Switch) (own : List ℤ) where
         | inr (m, brings) ↦
             let z = rank-none side in
             let some : at bounds m ≢ pos 0 = λ (k : at bounds m ≡ pos 0).
-            let e : v ≡ pos 0 = sym brings.carries ∙ ap (carried side brings.link brings.conduct) k ∙ carried-none side brings.link brings.conduct in
+            let e : v ≡ pos 0 = sym brings.carries ∙ ap (carried_bound side brings.link brings.conduct) k ∙ carried-none side brings.link brings.conduct in
             let f : rank side v ≡ rank side (pos 0) = ap (rank side) e in
             absurd (omega arith) in
             let ne : m ≢ n = λ (k : m ≡ n). some (ap (at bounds) k ∙ none) in
@@ -113,7 +113,7 @@ module _ (side : Side) (switches : List Switch) (own : List ℤ) where
                   conduct = brings.conduct;
                   there = brings.there;
                   joins = brings.joins;
-                  carries = ap (carried side brings.link brings.conduct) (at-other bounds n m v ne) ∙ brings.carries ∙ sym here;
+                  carries = ap (carried_bound side brings.link brings.conduct) (at-other bounds n m v ne) ∙ brings.carries ∙ sym here;
                 },
                 passes bounds n v none walk.0 m some walk.1,
               ),
@@ -125,7 +125,7 @@ module _ (side : Side) (switches : List Switch) (own : List ℤ) where
     pub owned : (n : ℕ) → n < length own → at bounds n ≡ pos 0 → at own n ≢ v
     pub brought :
         (link : Link) (conduct : Conduct) (m n : ℕ) → Contains switches (link, conduct) → Joins link m n → n < length own
-        → at bounds n ≡ pos 0 → carried side link conduct (at bounds m) ≢ v
+        → at bounds n ≡ pos 0 → carried_bound side link conduct (at bounds m) ≢ v
 
   -- where no net takes a level any more it is finished
   pub finishes : (r : ℕ) (bounds : List ℤ) (v : ℤ) → IsDone side switches own (suc r) bounds → rank side v ≡ suc r → IsIdle bounds v → IsDone side switches own r bounds
@@ -134,7 +134,7 @@ module _ (side : Side) (switches : List Switch) (own : List ℤ) where
     above = λ n some. let h = done.above n some in omega arith;
     owned = λ n inside lt. met n (at own n) lt (done.owned n inside) (idle.owned n inside);
     brought = λ link conduct m n there joins inside lt.
-        met n (carried side link conduct (at bounds m)) lt
+        met n (carried_bound side link conduct (at bounds m)) lt
         (done.brought link conduct m n there joins inside) (idle.brought link conduct m n there joins inside);
     source = done.source;
   }
@@ -208,7 +208,7 @@ module _ (side : Side) (switches : List Switch) (own : List ℤ) where
   walk-most most own_most bounds (suc steps) n (m, brings, walk) =
       let h = walk-most most own_most bounds steps m walk in
       let w = rank-carried side brings.link brings.conduct (at bounds m) in
-      let f : rank side (carried side brings.link brings.conduct (at bounds m)) ≡ rank side (at bounds n) = ap (rank side) brings.carries in
+      let f : rank side (carried_bound side brings.link brings.conduct (at bounds m)) ≡ rank side (at bounds n) = ap (rank side) brings.carries in
       omega arith
 
   pub bounds-most : (most : ℕ) → ((n : ℕ) → rank side (at own n) ≤ most) → (bounds : List ℤ) → IsSettled side switches own bounds →
@@ -252,7 +252,7 @@ module _ (side : Side) (switches : List Switch) (own : List ℤ) where
   follows q a b some sa sb ab ba (suc steps) n high (m, brings, walk) =
       let inside = ranked-inside q a some sa.nets n high in
       let w = rank-carried side brings.link brings.conduct (at a m) in
-      let f : rank side (carried side brings.link brings.conduct (at a m)) ≡ rank side (at a n) = ap (rank side) brings.carries in
+      let f : rank side (carried_bound side brings.link brings.conduct (at a m)) ≡ rank side (at a n) = ap (rank side) brings.carries in
       let same = follows q a b some sa sb ab ba steps m (omega arith) walk in
       same_from_le q a b ab ba n high
       (settled-most b sb n inside (at a n) (inr (inr (
@@ -262,7 +262,7 @@ module _ (side : Side) (switches : List Switch) (own : List ℤ) where
           conduct = brings.conduct;
           there = brings.there;
           joins = brings.joins;
-          carries = ap (carried side brings.link brings.conduct) (sym same) ∙ brings.carries;
+          carries = ap (carried_bound side brings.link brings.conduct) (sym same) ∙ brings.carries;
         },
       ))))
 
@@ -314,8 +314,8 @@ module _ (side : Side) (switches : List Switch) (own : List ℤ) where
     above = λ n some. absurd (some (none n));
     owned = λ n inside lt. let h = own_most n in absurd (omega arith);
     brought = λ link conduct m n there joins inside lt.
-        let e : carried side link conduct (at bounds m) ≡ pos 0 = ap (carried side link conduct) (none m) ∙ carried-none side link conduct in
-        let f : rank side (carried side link conduct (at bounds m)) ≡ rank side (pos 0) = ap (rank side) e in
+        let e : carried_bound side link conduct (at bounds m) ≡ pos 0 = ap (carried_bound side link conduct) (none m) ∙ carried-none side link conduct in
+        let f : rank side (carried_bound side link conduct (at bounds m)) ≡ rank side (pos 0) = ap (rank side) e in
         let z = rank-none side in
         absurd (omega arith);
     source = λ n some. absurd (some (none n));

@@ -47,7 +47,7 @@ opposed Upper strength = negative_level strength
 
 -- what a switch carries of the bound at one end: one that conducts the reduced bound, one that is off nothing, and
 -- an unknown one only a negative lower or a positive upper bound
-abbrev pub carried : Side → Link → Conduct → ℤ → ℤ
-carried side link On v = reduced_level link.resistive v
-carried side link Off v = pos 0
-carried side link Unknown v = if is_favoured side v then reduced_level link.resistive v else pos 0
+abbrev pub carried_bound : Side → Link → Conduct → ℤ → ℤ
+carried_bound side link On v = reduced_level link.resistive v
+carried_bound side link Off v = pos 0
+carried_bound side link Unknown v = if is_favoured side v then reduced_level link.resistive v else pos 0

@@ -5,7 +5,7 @@ use Rattle.std.specs.Ordering.{int_eq}
 use Rattle.level_range.specs.Signal.{Signal}
 use Rattle.net_settle.specs.declared.side.Side.{Side}
 use Rattle.net_settle.specs.declared.side.Side.TheVariants.{Lower, Upper}
-use Rattle.net_settle.specs.Bounds.{Switch, at, bounds_of, carried, favoured, opposed}
+use Rattle.net_settle.specs.Bounds.{Switch, at, bounds_of, carried_bound, favoured, opposed}
 
 -- a net that has no bound yet takes the level where it is what comes
 unfoldable pub take_level : ℤ → ℕ → ℤ → List ℤ → List ℤ
@@ -21,8 +21,8 @@ take_own level own (suc n) bounds = take_level level n (at own n) (take_own leve
 abbrev pub take_carried : Side → ℤ → List Switch → List ℤ → List ℤ
 take_carried side level [] bounds = bounds
 take_carried side level ((link, conduct) ∷ switches) bounds =
-    let there = take_level level link.b (carried side link conduct (at bounds link.a)) bounds in
-    let back = take_level level link.a (carried side link conduct (at there link.b)) there in
+    let there = take_level level link.b (carried_bound side link conduct (at bounds link.a)) bounds in
+    let back = take_level level link.a (carried_bound side link conduct (at there link.b)) there in
     take_carried side level switches back
 
 -- so many rounds of both
@@ -52,7 +52,7 @@ unfoldable pub signals_between : List ℤ → List ℤ → ℕ → List Signal
 signals_between lower upper nets = map (λ n. record { lo = at lower n; hi = at upper n }) (range_with_len 0 nets)
 
 -- the signals of nets whose own signals are given
-unfoldable pub settled : List Switch → List Signal → List Signal
-settled switches own =
+unfoldable pub settled_signals : List Switch → List Signal → List Signal
+settled_signals switches own =
     signals_between (settled_bounds Lower switches (bounds_of Lower own)) (settled_bounds Upper switches (bounds_of Upper own))
     (length own)

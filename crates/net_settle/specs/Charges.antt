@@ -9,7 +9,7 @@ use Rattle.level_range.specs.Combine.{join_of}
 use Rattle.level_range.specs.Reduce.{hull_of}
 use Rattle.net_settle.specs.declared.shape.Shape.{Shape}
 use Rattle.net_settle.specs.Bounds.{Switch}
-use Rattle.net_settle.specs.ByLevels.{settled}
+use Rattle.net_settle.specs.ByLevels.{settled_signals}
 
 -- the signal of a net; z past the last net
 abbrev pub signal_at : List Signal → ℕ → Signal
@@ -56,7 +56,7 @@ switches_of shape on = zip shape.links on
 
 -- the signals without charges
 unfoldable pub driven_signals : Shape → List Conduct → List Signal → List Signal
-driven_signals shape on own = settled (switches_of shape on) own
+driven_signals shape on own = settled_signals (switches_of shape on) own
 
 -- the own signals of nets, whose kinds and levels of charges are given, with what the charges contribute
 unfoldable pub charged_signals : List Kind → List ℕ → List Signal → List Signal → List Signal → List Signal
@@ -77,7 +77,7 @@ prefer_driven_signals driven second =
 unfoldable pub island_signals : Shape → List Conduct → List Signal → List Signal → List Signal
 island_signals shape on own charges =
     let driven = driven_signals shape on own in
-    prefer_driven_signals driven (settled (switches_of shape on) (charged_signals shape.kinds shape.charge own charges driven))
+    prefer_driven_signals driven (settled_signals (switches_of shape on) (charged_signals shape.kinds shape.charge own charges driven))
 
 -- what becomes of the charges, whose levels are given, by the signals of their nets
 unfoldable pub charges_left : List ℕ → List Signal → List Signal → List Signal

@@ -5,7 +5,7 @@ use Rattle.level_range.specs.declared.range.Conduct.{Conduct}
 use Rattle.net_settle.specs.declared.shape.Link.{Link}
 use Rattle.net_settle.specs.declared.side.Side.{Side}
 use Rattle.net_settle.specs.declared.side.Side.TheVariants.{Lower, Upper}
-use Rattle.net_settle.specs.Bounds.{Switch, at, carried}
+use Rattle.net_settle.specs.Bounds.{Switch, at, carried_bound}
 use Rattle.net_settle.specs.Settling.{Joins, IsWalk}
 
 -- of two bounds the better one has the greater rank
@@ -30,7 +30,7 @@ pub record IsDone (side : Side) (switches : List Switch) (own : List ℤ) (r : �
   pub owned : (n : ℕ) → n < length own → r < rank side (at own n) → rank side (at own n) ≤ rank side (at bounds n)
   pub brought :
       (link : Link) (conduct : Conduct) (m n : ℕ) → Contains switches (link, conduct) → Joins link m n → n < length own
-      → r < rank side (carried side link conduct (at bounds m)) → rank side (carried side link conduct (at bounds m)) ≤ rank side (at bounds n)
+      → r < rank side (carried_bound side link conduct (at bounds m)) → rank side (carried_bound side link conduct (at bounds m)) ≤ rank side (at bounds n)
   pub source : (n : ℕ) → at bounds n ≢ pos 0 → (steps : ℕ) × IsWalk side switches own bounds steps n
 
 -- no net without a bound has the level as its own bound
@@ -40,7 +40,7 @@ OwnRests own bounds v = (n : ℕ) → n < length bounds → at bounds n ≡ pos 
 -- the switch carries the level to no net without a bound
 abbrev pub LinkRests : Side → Link → Conduct → List ℤ → ℤ → Type 0
 LinkRests side link conduct bounds v =
-    (m n : ℕ) → Joins link m n → n < length bounds → at bounds n ≡ pos 0 → carried side link conduct (at bounds m) ≢ v
+    (m n : ℕ) → Joins link m n → n < length bounds → at bounds n ≡ pos 0 → carried_bound side link conduct (at bounds m) ≢ v
 
 -- no switch carries the level to a net without a bound
 abbrev pub LinksRest : Side → List Switch → List ℤ → ℤ → Type 0

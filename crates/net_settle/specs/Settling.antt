@@ -5,7 +5,7 @@ use Rattle.level_range.specs.Signal.{Signal}
 use Rattle.net_settle.specs.declared.shape.Link.{Link}
 use Rattle.net_settle.specs.declared.side.Side.{Side}
 use Rattle.net_settle.specs.declared.side.Side.TheVariants.{Lower, Upper}
-use Rattle.net_settle.specs.Bounds.{Switch, at, better, bounds_of, carried}
+use Rattle.net_settle.specs.Bounds.{Switch, at, better, bounds_of, carried_bound}
 
 -- the link is between the two nets, in either direction
 abbrev pub Joins : Link → ℕ → ℕ → Type 0
@@ -17,7 +17,7 @@ pub record Brings (side : Side) (switches : List Switch) (bounds : List ℤ) (m 
   pub conduct : Conduct
   pub there : Contains switches (link, conduct)
   pub joins : Joins link m n
-  pub carries : carried side link conduct (at bounds m) ≡ v
+  pub carries : carried_bound side link conduct (at bounds m) ≡ v
 
 -- the level is 0, the net's own bound, or carried to the net
 abbrev pub Comes : Side → List Switch → List ℤ → List ℤ → ℕ → ℤ → Type 0

@@ -1,7 +1,7 @@
 ghost use Rattle.std.specs.Prelude.{◌≡◌, ◌≤◌};
 ghost use Rattle.level_range.specs.Reduce.{reduced_level};
 ghost use Rattle.level_range.specs.Signal.{IsSignal};
-ghost use Rattle.net_settle.specs.Bounds.{bound_of, is_favoured as is_favoured_on, favoured as favoured_of, opposed as opposed_of, carried as carried_of};
+ghost use Rattle.net_settle.specs.Bounds.{bound_of, is_favoured as is_favoured_on, favoured as favoured_of, opposed as opposed_of, carried_bound as carried_of};
 
 use crate::level::Level;
 use crate::shape::Link;
@@ -66,7 +66,7 @@ fn reduction_of(level: Level, resistive: bool) -> Level
 }
 
 /// What a link carries of the bound at its other end.
-pub fn carried(level: Level, link: Link, conduct: Conduct, side: Side) -> Level
+pub fn carried_bound(level: Level, link: Link, conduct: Conduct, side: Side) -> Level
     ensures { result ≡ carried_of side link conduct level }
 {
     match conduct {

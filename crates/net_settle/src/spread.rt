@@ -1,6 +1,6 @@
 ghost use Rattle.std.specs.Prelude.{◌≡◌, ◌≢◌, ◌<◌, ◌≤◌, ◌-◌, ℕ, suc, pos, length, zip, All, List, ℤ, Contains, MatchBool};
 ghost use Rattle.level_range.specs.Signal.{IsSignal};
-ghost use Rattle.net_settle.specs.Bounds.{Switch, at, bounds_of, carried as carried_of};
+ghost use Rattle.net_settle.specs.Bounds.{Switch, at, bounds_of, carried_bound as carried_of};
 ghost use Rattle.net_settle.specs.ByLevels.{take_level};
 ghost use Rattle.net_settle.specs.OneSide.{bounds_on, AreBoundsOn};
 ghost use Rattle.net_settle.specs.Conditions.{EndsWithin};
@@ -8,7 +8,7 @@ ghost use Rattle.net_settle.specs.Progress.{rank, IsDone, OwnRests, LinkRests, L
 
 use crate::level::Level;
 use crate::shape::Link;
-use crate::side::{Side, bound, carried, favoured, opposed};
+use crate::side::{Side, bound, carried_bound, favoured, opposed};
 use level_range::{Conduct, Range};
 
 /// Gives the level to a net that has no bound yet, where it is what comes to the net. Answers whether
@@ -63,9 +63,9 @@ fn take_carried(
 {
     let a = link.a as usize;
     let b = link.b as usize;
-    let comes = carried(bounds[a], link, conduct, side);
+    let comes = carried_bound(bounds[a], link, conduct, side);
     let there = take(bounds, b, comes, level);
-    let comes_back = carried(bounds[b], link, conduct, side);
+    let comes_back = carried_bound(bounds[b], link, conduct, side);
     let back = take(bounds, a, comes_back, level);
     there || back
 }

@@ -6,7 +6,7 @@ use crate::lists::{CallList, NamedFile, NamedFileList};
 use crate::outside::{Failed, Shelf};
 use std::marker::Model;
 
-/// The open file of a shelf in memory: its name, its place among the files, and how many of its
+/// The open file of a shelf in memory: its name, its index among the files, and how many of its
 /// bytes were read.
 #[derive(Debug, Drop)]
 struct OpenFile {
@@ -165,7 +165,7 @@ impl Shelf for MemoryShelf {
             self.fail(name);
             return Err(Failed);
         }
-        let Some(index) = place_of(self.files.as_slice(), name.as_str().as_bytes()) else {
+        let Some(index) = index_of(self.files.as_slice(), name.as_str().as_bytes()) else {
             self.fail(name);
             return Err(Failed);
         };
@@ -214,8 +214,8 @@ fn copy_first(from: &[u8], to: &mut [u8]) -> usize
     n
 }
 
-/// The place of the file of this name, where there is one.
-fn place_of(files: &[NamedFile], name: &[u8]) -> Option<usize>
+/// The index of the file of this name, where there is one.
+fn index_of(files: &[NamedFile], name: &[u8]) -> Option<usize>
     ensures { MatchOption result (file_of files.now name.now ≡ None) (λ i. (i < length files.now)
         × ((d : _) → file_of files.now name.now ≡ Some (slice_index_or files.now i d).bytes)) }
 {

@@ -27,7 +27,7 @@ fn better(x: i8, y: i8) -> i8 {
 }
 
 /// What a switch carries of a lower bound.
-fn carried(link: &Link, on: Conduct, bound: i8) -> i8 {
+fn carried_bound(link: &Link, on: Conduct, bound: i8) -> i8 {
     let level = weakened(bound, link.resistive);
     match on {
         Conduct::On => level,
@@ -51,10 +51,10 @@ fn best(links: &[Link], on: &[Conduct], own: i8, bounds: &[i8; 3], net: u32) -> 
     let mut best = better(0, own);
     for (link, on) in links.iter().zip(on.iter()) {
         if link.b == net {
-            best = better(best, carried(link, *on, at(bounds, link.a)));
+            best = better(best, carried_bound(link, *on, at(bounds, link.a)));
         }
         if link.a == net {
-            best = better(best, carried(link, *on, at(bounds, link.b)));
+            best = better(best, carried_bound(link, *on, at(bounds, link.b)));
         }
     }
     best
@@ -88,7 +88,7 @@ fn from(
         2 => sources[2],
         _ => false,
     };
-    there && carried(link, on, at(bounds, source)) == at(bounds, net)
+    there && carried_bound(link, on, at(bounds, source)) == at(bounds, net)
 }
 
 /// Whether each bound other than 0 has a source.

@@ -1,6 +1,6 @@
 use Rattle.std.proofs.Common.{◌≡◌, ◌≢◌, length, List, sym, ap, subst, arith}
 use Rattle.std.specs.Prelude.{ℤ, pos, zip}
-use Rattle.net_settle.specs.Bounds.{at, bounds_of, carried}
+use Rattle.net_settle.specs.Bounds.{at, bounds_of, carried_bound}
 use Rattle.net_settle.proofs.Taking.{spreads-then}
 use Rattle.net_settle.proofs.Walks.{finishes}
 use Rattle.net_settle.proofs.spread.spread.Goals as goal
@@ -26,7 +26,7 @@ returns c =
             owned = λ n lt none.
                 c.take_own.ensures.rests n (let e = first.nets in omega arith) (all.grows n none);
             brought = λ link conduct m n there joins lt none.
-                subst (λ (b : List ℤ). at b n ≡ pos 0 → carried c.args.side link conduct (at b m) ≢ c.args.level) (sym moves.0)
+                subst (λ (b : List ℤ). at b n ≡ pos 0 → carried_bound c.args.side link conduct (at b m) ≢ c.args.level) (sym moves.0)
                 (moves.1 link conduct there m n joins (let e = last.nets in let f = ap length moves.0 in omega arith)) none;
           };
     }

@@ -1,6 +1,6 @@
 use Rattle.std.proofs.Common.{◌≡◌, ℕ, List, map, sym, ap, ◌∙◌}
 use Rattle.std.specs.Prelude.{Option, slice_get}
-use Rattle.name_table.specs.Names.{place_of}
+use Rattle.name_table.specs.Names.{index_of}
 use Rattle.flat_net.specs.declared.parts.Find.{Find}
 use Rattle.flat_net.specs.Names.{nets_found, nets_at}
 use Rattle.flat_net.specs.Patches.{Netlist}
@@ -11,9 +11,9 @@ pub returns : goal.returns
 returns c =
     let finds = c.self.inside.parts.finds in
     let name = c.args.name.now in
-    let place : c.find-place.result ≡ place_of name (map (λ (found : Find). found.name) finds)
-    = c.find-place.ensures ∙ ap (λ (n : List ℕ). place_of n c.self.inside.find_table) c.as_bytes.ensures.value
-    ∙ ap (λ (names : List (List ℕ)). place_of name names) c.self.invariant.find_table in
+    let place : c.find-place.result ≡ index_of name (map (λ (found : Find). found.name) finds)
+    = c.find-place.ensures ∙ ap (λ (n : List ℕ). index_of n c.self.inside.find_table) c.as_bytes.ensures.value
+    ∙ ap (λ (names : List (List ℕ)). index_of name names) c.self.invariant.find_table in
     c.bit_at.ensures
     ∙ ap (λ (fs : List Find). slice_get (nets_at fs c.find-place.result) c.args.at) c.as_slice.ensures
     ∙ ap (λ (p : Option ℕ). slice_get (nets_at finds p) c.args.at) place
