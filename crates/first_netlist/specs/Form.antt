@@ -11,8 +11,8 @@ use Rattle.v_tree.specs.declared.declarations.Direction.TheVariants as direction
 use Rattle.v_tree.specs.declared.declarations.NetType.{NetType}
 use Rattle.v_tree.specs.declared.declarations.NetType.TheVariants as net_type
 use Rattle.v_tree.specs.declared.declarations.PortDecl.{PortDecl}
-use Rattle.v_tree.specs.declared.declarations.Declared.{Declared}
-use Rattle.v_tree.specs.declared.declarations.Declared.TheVariants as declares
+use Rattle.v_tree.specs.declared.declarations.DeclaredNames.{DeclaredNames}
+use Rattle.v_tree.specs.declared.declarations.DeclaredNames.TheVariants as declares
 use Rattle.v_tree.specs.declared.declarations.NetDecl.{NetDecl}
 use Rattle.v_tree.specs.declared.gates.LogicGate.TheVariants as logic
 use Rattle.v_tree.specs.declared.gates.GateKind.{GateKind}
@@ -85,7 +85,7 @@ unfoldable pub ports_in : PortDecl → Option Item
 ports_in decl = if is_none decl.net_type && is_none decl.range then ports_to decl.direction (flat_names decl.names) else None
 
 -- nets that aren't assigned
-unfoldable pub wires_among : Declared → Option Item
+unfoldable pub wires_among : DeclaredNames → Option Item
 wires_among (declares.Names names) = Some (Wires (flat_names names))
 wires_among (declares.Valued names) = None
 
@@ -96,7 +96,7 @@ is_wire other = false
 
 -- wires, without a drive, a range and a delay
 unfoldable pub wires_in : NetDecl → Option Item
-wires_in decl = if is_wire decl.net_type && is_none decl.drive && is_none decl.vector_range && is_none decl.delay then wires_among decl.declared else None
+wires_in decl = if is_wire decl.net_type && is_none decl.drive && is_none decl.vector_range && is_none decl.delay then wires_among decl.declared_names else None
 
 -- `nand`, without a drive and a delay
 unfoldable pub is_nand : GateKind → Bool

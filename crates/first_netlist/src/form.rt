@@ -16,8 +16,8 @@ use gate_net::Netlist;
 use std::alloc::Global;
 use v_lexer::ReservedWords;
 use v_tree::{
-    Declared, Directive, Expr, File, GateItem, GateKind, LogicGate, Name, NetDecl, NetType, Pick,
-    PortDecl, Ports, Terms, UdpDecl,
+    DeclaredNames, Directive, Expr, File, GateItem, GateKind, LogicGate, Name, NetDecl, NetType,
+    Pick, PortDecl, Ports, Terms, UdpDecl,
 };
 
 /// The ports that a header names, where it doesn't declare them.
@@ -162,13 +162,13 @@ fn ports_in(alloc: Global, words: &ReservedWords, decl: &PortDecl) -> Result<Ite
 fn wires_among(
     alloc: Global,
     words: &ReservedWords,
-    declared: &Declared,
+    declared: &DeclaredNames,
 ) -> Result<Item, NetlistFault>
     ensures { Gives (λ item. item) result (wires_among «declared».now) }
 {
     match declared {
-        Declared::Names(names) => Ok(Item::Wires(name_list(alloc, words, names.as_slice())?)),
-        Declared::Valued(_) => Err(NetlistFault::Unbuilt),
+        DeclaredNames::Names(names) => Ok(Item::Wires(name_list(alloc, words, names.as_slice())?)),
+        DeclaredNames::Valued(_) => Err(NetlistFault::Unbuilt),
     }
 }
 
@@ -190,7 +190,7 @@ fn wires_in(alloc: Global, words: &ReservedWords, decl: &NetDecl) -> Result<Item
         && decl.vector_range.is_none()
         && decl.delay.is_none()
     {
-        wires_among(alloc, words, &decl.declared)
+        wires_among(alloc, words, &decl.declared_names)
     } else {
         Err(NetlistFault::Unbuilt)
     }

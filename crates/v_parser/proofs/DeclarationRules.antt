@@ -15,8 +15,8 @@ use Rattle.v_tree.specs.declared.declarations.VectorWord.{VectorWord}
 use Rattle.v_tree.specs.declared.declarations.VectorRange.{VectorRange}
 use Rattle.v_tree.specs.declared.declarations.PortDecl.{PortDecl}
 use Rattle.v_tree.specs.declared.declarations.ValuedName.{ValuedName}
-use Rattle.v_tree.specs.declared.declarations.Declared.{Declared}
-use Rattle.v_tree.specs.declared.declarations.Declared.TheVariants as kind
+use Rattle.v_tree.specs.declared.declarations.DeclaredNames.{DeclaredNames}
+use Rattle.v_tree.specs.declared.declarations.DeclaredNames.TheVariants as kind
 use Rattle.v_tree.specs.declared.declarations.NetDecl.{NetDecl}
 use Rattle.v_tree.specs.declared.declarations.TriregDecl.{TriregDecl}
 use Rattle.v_tree.specs.declared.declarations.Pair.{Pair}
@@ -161,59 +161,59 @@ less_value true true true e = absurd cc
 less_value true false c e = absurd cc
 less_value false b c e = absurd cc
 
-abbrev AreValued : Declared → Type 0
+abbrev AreValued : DeclaredNames → Type 0
 AreValued x = (names : List ValuedName) × (x ≡ kind.Valued names) × fit.AreSome fit.IsFitValuedName names
 
-abbrev AreNames : Declared → Type 0
+abbrev AreNames : DeclaredNames → Type 0
 AreNames x = (names : List Name) × (x ≡ kind.Names names) × fit.AreSome fit.IsFitName names
 
 -- names with values are seen by their `=`
-valued_seen : (names : List ValuedName) (ws : List Written) → fit.AreSome fit.IsFitValuedName names → begins sees_value (spell.declared (kind.Valued names) ++ ws) ≡ true
+valued_seen : (names : List ValuedName) (ws : List Written) → fit.AreSome fit.IsFitValuedName names → begins sees_value (spell.declared_names (kind.Valued names) ++ ws) ≡ true
 valued_seen [] ws f = absurd (omega (arith, f.some))
 valued_seen (v ∷ names) ws f = refl
 
 -- names alone are seen by having no `=`
-names_seen : (names : List Name) (ws : List Written) → fit.AreSome fit.IsFitName names → is_mark 61 (first_form ws) ≡ false → begins sees_value (spell.declared (kind.Names names) ++ ws) ≡ false
+names_seen : (names : List Name) (ws : List Written) → fit.AreSome fit.IsFitName names → is_mark 61 (first_form ws) ≡ false → begins sees_value (spell.declared_names (kind.Names names) ++ ws) ≡ false
 names_seen [] ws f none = absurd (omega (arith, f.some))
 names_seen (n ∷ []) ws f none = none
 names_seen (n ∷ next ∷ names) ws f none = refl
 
 -- names that were read fit
-declared_fits : (x : Declared) → AreValued x ⊎ AreNames x → fit.IsFitDeclared x
-declared_fits x (inl f) = subst fit.IsFitDeclared (sym f.1) f.2
-declared_fits x (inr f) = subst fit.IsFitDeclared (sym f.1) f.2
+declared_fits : (x : DeclaredNames) → AreValued x ⊎ AreNames x → fit.IsFitDeclaredNames x
+declared_fits x (inl f) = subst fit.IsFitDeclaredNames (sym f.1) f.2
+declared_fits x (inr f) = subst fit.IsFitDeclaredNames (sym f.1) f.2
 
 -- names that fit have values or none
-declared_from : (x : Declared) → fit.IsFitDeclared x → AreValued x ⊎ AreNames x
+declared_from : (x : DeclaredNames) → fit.IsFitDeclaredNames x → AreValued x ⊎ AreNames x
 declared_from (kind.Valued names) f = inl (names, refl, f)
 declared_from (kind.Names names) f = inr (names, refl, f)
 
 -- names with values
-valued_rule : Rule (kind.Valued <$> separated read.valued_name) spell.declared AreValued no_more
+valued_rule : Rule (kind.Valued <$> separated read.valued_name) spell.declared_names AreValued no_more
 valued_rule =
-    follow_rule (variant_rule (separated_rule valued_name_rule (λ x f. omega arith) (λ ws. refl)) kind.Valued spell.declared (λ a. refl))
+    follow_rule (variant_rule (separated_rule valued_name_rule (λ x f. omega arith) (λ ws. refl)) kind.Valued spell.declared_names (λ a. refl))
     (λ ws h. less_bracket (no_bracket ws) (no_comma ws) (not (is_mark 61 (first_form ws))) h)
 
 -- names alone
-names_rule : Rule (kind.Names <$> separated name) spell.declared AreNames no_more
+names_rule : Rule (kind.Names <$> separated name) spell.declared_names AreNames no_more
 names_rule =
-    follow_rule (variant_rule (separated_rule name_rule (λ x f. omega arith) (λ ws. refl)) kind.Names spell.declared (λ a. refl))
+    follow_rule (variant_rule (separated_rule name_rule (λ x f. omega arith) (λ ws. refl)) kind.Names spell.declared_names (λ a. refl))
     (λ ws h. less_comma (no_bracket ws) (no_comma ws) (not (is_mark 61 (first_form ws))) h)
 
 -- names alone, or names with values
-pub declared_rule : Rule read.declared spell.declared fit.IsFitDeclared no_more
-unfolding read.declared
+pub declared_rule : Rule read.declared_names spell.declared_names fit.IsFitDeclaredNames no_more
+unfolding read.declared_names
 declared_rule =
     refit_rule (follow_rule (choice_rule sees_value valued_rule names_rule
-    (λ x ws f g. ap (λ (d : Declared). begins sees_value (spell.declared d ++ ws)) f.1 ∙ valued_seen f.0 ws f.2)
-    (λ x ws f g. ap (λ (d : Declared). begins sees_value (spell.declared d ++ ws)) f.1
+    (λ x ws f g. ap (λ (d : DeclaredNames). begins sees_value (spell.declared_names d ++ ws)) f.1 ∙ valued_seen f.0 ws f.2)
+    (λ x ws f g. ap (λ (d : DeclaredNames). begins sees_value (spell.declared_names d ++ ws)) f.1
     ∙ names_seen f.0 ws f.2 (less_value (no_bracket ws) (no_comma ws) (is_mark 61 (first_form ws)) g)))
     (λ ws h. and_from (no_more ws) (no_more ws) h h))
     declared_fits declared_from
 
 -- names, with values or without, begin with a name
-declared_begins : (follow : Follow) (d : Declared) (rest ws : List Written) → fit.IsFitDeclared d → ((n : Name) (vs : List Written) → follow (spell.name n ++ vs) ≡ true)
-    → follow ((spell.declared d ++ rest) ++ ws) ≡ true
+declared_begins : (follow : Follow) (d : DeclaredNames) (rest ws : List Written) → fit.IsFitDeclaredNames d → ((n : Name) (vs : List Written) → follow (spell.name n ++ vs) ≡ true)
+    → follow ((spell.declared_names d ++ rest) ++ ws) ≡ true
 declared_begins follow (kind.Names names) rest ws f follows = names_begin follow names rest ws f follows
 declared_begins follow (kind.Valued []) rest ws f follows = absurd (omega (arith, f.some))
 declared_begins follow (kind.Valued (v ∷ names)) rest ws f follows = follows v.name ((((spell.mark 61 ∷ spell.expr v.value) ++ behind_commas spell.valued_name names) ++ rest) ++ ws)
@@ -237,10 +237,10 @@ word_no_paren : (o : Option VectorWord) (r : RangeBounds) (rest ws : List Writte
 word_no_paren None r rest ws = refl
 word_no_paren (Some x) r rest ws = refl
 
-abbrev net_parts : NetDecl → (NetType × Location) × (Option DriveStrength × (Option VectorRange × (Option DelaySpec × (Declared × Unit {0}))))
-net_parts d = ((d.net_type, d.location), (d.drive, (d.vector_range, (d.delay, (d.declared, tt)))))
+abbrev net_parts : NetDecl → (NetType × Location) × (Option DriveStrength × (Option VectorRange × (Option DelaySpec × (DeclaredNames × Unit {0}))))
+net_parts d = ((d.net_type, d.location), (d.drive, (d.vector_range, (d.delay, (d.declared_names, tt)))))
 
--- `nettype [ drive ] [ vector_range ] [ delay ] declared ;`
+-- `nettype [ drive ] [ vector_range ] [ delay ] declared_names ;`
 pub net_decl_rule : Rule read.net_decl spell.net_decl fit.IsFitNetDecl anything
 unfolding read.net_decl
 net_decl_rule =
@@ -251,17 +251,17 @@ net_decl_rule =
     (pair_rule declared_rule (skip_rule 59)
     (λ y ws f g. refl))
     (λ y ws f g. declared_begins no_delay y.0 (spell.mark 59 ∷ []) ws f.0 (λ n vs. refl)))
-    (λ y ws f g. may_skip no_vector_range spell.delay_spec y.0 (spell.declared y.1.0 ++ spell.mark 59 ∷ []) ws (λ x. refl)
+    (λ y ws f g. may_skip no_vector_range spell.delay_spec y.0 (spell.declared_names y.1.0 ++ spell.mark 59 ∷ []) ws (λ x. refl)
     (declared_begins no_vector_range y.1.0 (spell.mark 59 ∷ []) ws f.1.0 (λ n vs. refl))))
     (λ y ws f g.
-    let after : List Written = spell.declared y.1.1.0 ++ spell.mark 59 ∷ [] in
+    let after : List Written = spell.declared_names y.1.1.0 ++ spell.mark 59 ∷ [] in
     may_skip no_paren spell.vector_range y.0 (written_if_there spell.delay_spec y.1.0 ++ after) ws (λ x. word_no_paren x.word x.range (written_if_there spell.delay_spec y.1.0 ++ after) ws)
     (may_skip no_paren spell.delay_spec y.1.0 after ws (λ x. refl)
     (declared_begins no_paren y.1.1.0 (spell.mark 59 ∷ []) ws f.1.1.0 (λ n vs. refl)))))
     (λ y ws f g. refl))
     read.net_decl_of net_parts (λ b. refl) (λ a. refl))
-    (λ x f. record { vector_range = f.1.1.0; delay = f.1.1.1.0; declared = f.1.1.1.1.0 })
-    (λ x f. (tt, (free_if_there x.drive, (f.vector_range, (f.delay, (f.declared, tt))))))
+    (λ x f. record { vector_range = f.1.1.0; delay = f.1.1.1.0; declared_names = f.1.1.1.1.0 })
+    (λ x f. (tt, (free_if_there x.drive, (f.vector_range, (f.delay, (f.declared_names, tt))))))
 
 abbrev trireg_parts : TriregDecl → Location × (Option Charge × (Option VectorRange × (Option DelaySpec × (List Name × Unit {0}))))
 trireg_parts d = (d.location, (d.charge, (d.vector_range, (d.delay, (d.names, tt)))))

@@ -384,11 +384,11 @@ unfolding declare.valued_name
 valued_name_safe = map_safe _ (pair_safe name_safe (pair_safe (skip_safe 61) expr_safe))
 
 -- names alone, or names with values
-declared_safe : Safe declare.declared
-unfolding declare.declared
+declared_safe : Safe declare.declared_names
+unfolding declare.declared_names
 declared_safe = choice_safe _ (map_safe _ (separated_safe valued_name_safe)) (map_safe _ (separated_safe name_safe))
 
--- `nettype [ drive ] [ vector_range ] [ delay ] declared ;`
+-- `nettype [ drive ] [ vector_range ] [ delay ] declared_names ;`
 net_decl_safe : Safe declare.net_decl
 unfolding declare.net_decl
 net_decl_safe = map_safe _ (pair_safe (token_safe words.net_type_in refl)

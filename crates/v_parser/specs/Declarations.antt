@@ -14,8 +14,8 @@ use Rattle.v_tree.specs.declared.declarations.VectorWord.{VectorWord}
 use Rattle.v_tree.specs.declared.declarations.VectorRange.{VectorRange}
 use Rattle.v_tree.specs.declared.declarations.PortDecl.{PortDecl}
 use Rattle.v_tree.specs.declared.declarations.ValuedName.{ValuedName}
-use Rattle.v_tree.specs.declared.declarations.Declared.{Declared}
-use Rattle.v_tree.specs.declared.declarations.Declared.TheVariants as kind
+use Rattle.v_tree.specs.declared.declarations.DeclaredNames.{DeclaredNames}
+use Rattle.v_tree.specs.declared.declarations.DeclaredNames.TheVariants as kind
 use Rattle.v_tree.specs.declared.declarations.NetDecl.{NetDecl}
 use Rattle.v_tree.specs.declared.declarations.TriregDecl.{TriregDecl}
 use Rattle.v_tree.specs.declared.declarations.Pair.{Pair}
@@ -82,11 +82,11 @@ abbrev pub sees_value : Form → Form → Bool
 sees_value f g = is_mark 61 g
 
 -- names alone, or names with values
-unfoldable pub declared : Reader Declared
-declared = choice sees_value (kind.Valued <$> separated valued_name) (kind.Names <$> separated name)
+unfoldable pub declared_names : Reader DeclaredNames
+declared_names = choice sees_value (kind.Valued <$> separated valued_name) (kind.Names <$> separated name)
 
 abbrev pub net_decl_of : (NetType × Location)
-    × (Option DriveStrength × (Option VectorRange × (Option DelaySpec × (Declared × Unit {0}))))
+    × (Option DriveStrength × (Option VectorRange × (Option DelaySpec × (DeclaredNames × Unit {0}))))
     → NetDecl
 net_decl_of z =
     record {
@@ -95,14 +95,14 @@ net_decl_of z =
       drive = z.1.0;
       vector_range = z.1.1.0;
       delay = z.1.1.1.0;
-      declared = z.1.1.1.1.0;
+      declared_names = z.1.1.1.1.0;
     }
 
--- `nettype [ drive ] [ vector_range ] [ delay ] declared ;`
+-- `nettype [ drive ] [ vector_range ] [ delay ] declared_names ;`
 unfoldable pub net_decl : Reader NetDecl
 net_decl = net_decl_of
     <$> (token net_type_in & optional (sees_mark 40) drive
-    & optional begins_vector_range vector_range & optional (sees_mark 35) delay_spec & declared
+    & optional begins_vector_range vector_range & optional (sees_mark 35) delay_spec & declared_names
     & skip 59)
 
 abbrev pub trireg_of : Location

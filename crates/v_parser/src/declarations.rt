@@ -14,8 +14,8 @@ use crate::fault::ParseFault;
 use crate::lists::{Part, separated};
 use crate::words::{sees, word_for};
 use v_tree::{
-    AssignItem, Declared, Direction, Expr, Name, NetDecl, NetType, Pair, PortDecl, RangeBounds,
-    Target, TriregDecl, ValuedName, VectorRange, VectorWord,
+    AssignItem, DeclaredNames, Direction, Expr, Name, NetDecl, NetType, Pair, PortDecl,
+    RangeBounds, Target, TriregDecl, ValuedName, VectorRange, VectorWord,
 };
 
 /// An expression whose concatenations stand at most 64 deep.
@@ -164,18 +164,18 @@ impl Part for ValuedName {
 }
 
 /// Names alone, or names with values.
-#[tactic(auto, unfolding(crate::specs::Declarations::declared, crate::specs::Input::choice))]
-fn declared(cursor: &mut Cursor<'_>) -> Result<Declared, ParseFault>
-    ensures { Reads (spec.declared cursor.old) result cursor.new }
+#[tactic(auto, unfolding(crate::specs::Declarations::declared_names, crate::specs::Input::choice))]
+fn declared_names(cursor: &mut Cursor<'_>) -> Result<DeclaredNames, ParseFault>
+    ensures { Reads (spec.declared_names cursor.old) result cursor.new }
 {
     if cursor.behind().sees_mark(b'=') {
-        Ok(Declared::Valued(separated(cursor)?))
+        Ok(DeclaredNames::Valued(separated(cursor)?))
     } else {
-        Ok(Declared::Names(separated(cursor)?))
+        Ok(DeclaredNames::Names(separated(cursor)?))
     }
 }
 
-/// `nettype [ drive ] [ vector_range ] [ delay ] declared ;`
+/// `nettype [ drive ] [ vector_range ] [ delay ] declared_names ;`
 #[tactic(auto, unfolding(crate::specs::Declarations::net_decl))]
 pub fn net_decl(cursor: &mut Cursor<'_>) -> Result<NetDecl, ParseFault>
     ensures { Reads (spec.net_decl cursor.old) result cursor.new }
@@ -184,7 +184,7 @@ pub fn net_decl(cursor: &mut Cursor<'_>) -> Result<NetDecl, ParseFault>
     let drive = drive_in_parentheses(cursor)?;
     let vector_range = vector_range_if_there(cursor)?;
     let delay = delay_if_there(cursor)?;
-    let declared = declared(cursor)?;
+    let declared_names = declared_names(cursor)?;
     cursor.skip(b';')?;
     Ok(NetDecl {
         location,
@@ -192,7 +192,7 @@ pub fn net_decl(cursor: &mut Cursor<'_>) -> Result<NetDecl, ParseFault>
         drive,
         vector_range,
         delay,
-        declared,
+        declared_names,
     })
 }
 

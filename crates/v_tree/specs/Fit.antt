@@ -24,8 +24,8 @@ use Rattle.v_tree.specs.declared.directives.Directive.TheVariants as directives
 use Rattle.v_tree.specs.declared.declarations.VectorRange.{VectorRange}
 use Rattle.v_tree.specs.declared.declarations.PortDecl.{PortDecl}
 use Rattle.v_tree.specs.declared.declarations.ValuedName.{ValuedName}
-use Rattle.v_tree.specs.declared.declarations.Declared.{Declared}
-use Rattle.v_tree.specs.declared.declarations.Declared.TheVariants as declares
+use Rattle.v_tree.specs.declared.declarations.DeclaredNames.{DeclaredNames}
+use Rattle.v_tree.specs.declared.declarations.DeclaredNames.TheVariants as declares
 use Rattle.v_tree.specs.declared.declarations.NetDecl.{NetDecl}
 use Rattle.v_tree.specs.declared.declarations.TriregDecl.{TriregDecl}
 use Rattle.v_tree.specs.declared.declarations.Pair.{Pair}
@@ -191,14 +191,14 @@ IsFitVectorRange s = IsFitRange s.range
 abbrev pub IsFitValuedName : ValuedName → Type 0
 IsFitValuedName v = IsFitName v.name × IsFitExpr v.value
 
-abbrev pub IsFitDeclared : Declared → Type 0
-IsFitDeclared (declares.Names names) = AreSome IsFitName names
-IsFitDeclared (declares.Valued names) = AreSome IsFitValuedName names
+abbrev pub IsFitDeclaredNames : DeclaredNames → Type 0
+IsFitDeclaredNames (declares.Names names) = AreSome IsFitName names
+IsFitDeclaredNames (declares.Valued names) = AreSome IsFitValuedName names
 
 pub record IsFitNetDecl (d : NetDecl) : Type 0 where
   pub vector_range : IsFitIfThere IsFitVectorRange d.vector_range
   pub delay : IsFitIfThere IsFitDelaySpec d.delay
-  pub declared : IsFitDeclared d.declared
+  pub declared_names : IsFitDeclaredNames d.declared_names
 
 pub record IsFitTriregDecl (d : TriregDecl) : Type 0 where
   pub vector_range : IsFitIfThere IsFitVectorRange d.vector_range

@@ -33,8 +33,8 @@ use Rattle.v_tree.specs.declared.declarations.VectorWord.{VectorWord}
 use Rattle.v_tree.specs.declared.declarations.VectorRange.{VectorRange}
 use Rattle.v_tree.specs.declared.declarations.PortDecl.{PortDecl}
 use Rattle.v_tree.specs.declared.declarations.ValuedName.{ValuedName}
-use Rattle.v_tree.specs.declared.declarations.Declared.{Declared}
-use Rattle.v_tree.specs.declared.declarations.Declared.TheVariants as declares
+use Rattle.v_tree.specs.declared.declarations.DeclaredNames.{DeclaredNames}
+use Rattle.v_tree.specs.declared.declarations.DeclaredNames.TheVariants as declares
 use Rattle.v_tree.specs.declared.declarations.NetDecl.{NetDecl}
 use Rattle.v_tree.specs.declared.declarations.TriregDecl.{TriregDecl}
 use Rattle.v_tree.specs.declared.declarations.Pair.{Pair}
@@ -199,16 +199,16 @@ vector_range s = written_if_there word_before_range s.word ++ range s.range
 abbrev pub valued_name : ValuedName → List Written
 valued_name v = name v.name ++ mark 61 ∷ expr v.value
 
-abbrev pub declared : Declared → List Written
-declared (declares.Names names) = between_commas name names
-declared (declares.Valued names) = between_commas valued_name names
+abbrev pub declared_names : DeclaredNames → List Written
+declared_names (declares.Names names) = between_commas name names
+declared_names (declares.Valued names) = between_commas valued_name names
 
--- `nettype [ drive ] [ vector_range ] [ delay ] declared ;`
+-- `nettype [ drive ] [ vector_range ] [ delay ] declared_names ;`
 abbrev pub net_decl : NetDecl → List Written
 net_decl d = placed_word d.location (net_type_word d.net_type)
     ∷ (written_if_there drive d.drive
     ++ (written_if_there vector_range d.vector_range
-    ++ (written_if_there delay_spec d.delay ++ (declared d.declared ++ mark 59 ∷ []))))
+    ++ (written_if_there delay_spec d.delay ++ (declared_names d.declared_names ++ mark 59 ∷ []))))
 
 -- `trireg [ charge ] [ vector_range ] [ delay ] Name , .. ;`
 abbrev pub trireg_decl : TriregDecl → List Written

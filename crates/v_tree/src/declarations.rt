@@ -62,12 +62,12 @@ pub type ValuedNameList = Items<ValuedName>;
 
 /// What a declaration of nets declares: names alone, or names that are assigned.
 #[derive(Drop)]
-pub enum Declared {
+pub enum DeclaredNames {
     Names(PlacedNameList),
     Valued(ValuedNameList),
 }
 
-/// A declaration of nets: `nettype [ drive ] [ vector_range ] [ delay ] declared ;`. The location is that of
+/// A declaration of nets: `nettype [ drive ] [ vector_range ] [ delay ] declared_names ;`. The location is that of
 /// the type.
 #[derive(Drop)]
 pub struct NetDecl {
@@ -76,7 +76,7 @@ pub struct NetDecl {
     pub drive: Option<DriveStrength>,
     pub vector_range: Option<VectorRange>,
     pub delay: Option<DelaySpec>,
-    pub declared: Declared,
+    pub declared_names: DeclaredNames,
 }
 
 /// A declaration of triregs: `trireg [ charge ] [ vector_range ] [ delay ] Name , .. ;`. The location is that

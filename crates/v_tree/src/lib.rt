@@ -12,7 +12,7 @@ mod modules;
 mod primitives;
 
 pub use declarations::{
-    AssignItem, Declared, Direction, NetDecl, NetType, Pair, PairList, PortDecl, TriregDecl,
+    AssignItem, DeclaredNames, Direction, NetDecl, NetType, Pair, PairList, PortDecl, TriregDecl,
     ValuedName, ValuedNameList, VectorRange, VectorWord,
 };
 pub use directives::{

@@ -243,9 +243,9 @@ fn show_net_decl(shown: &mut String, decl: &NetDecl) -> Result<(), AllocError> {
     show_drive(shown, &decl.drive)?;
     show_vector_range(shown, &decl.vector_range)?;
     show_delay(shown, &decl.delay)?;
-    match &decl.declared {
-        Declared::Names(names) => show_names(shown, names),
-        Declared::Valued(names) => show_valued(shown, names),
+    match &decl.declared_names {
+        DeclaredNames::Names(names) => show_names(shown, names),
+        DeclaredNames::Valued(names) => show_valued(shown, names),
     }
 }
 
