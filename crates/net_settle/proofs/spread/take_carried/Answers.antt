@@ -11,40 +11,40 @@ there-Then-there : (c : Then-there) → c.take-there.new.bounds ≡ take_level c
 there-Then-there c =
     c.take-there.ensures.bounds
     ∙ ap (λ u. take_level c.args.level c.args.link.b u c.args.bounds.now)
-    (c.carried-comes.ensures ∙ ap (carried_bound c.args.side c.args.link c.args.conduct)
+    (c.carried_bound-comes.ensures ∙ ap (carried_bound c.args.side c.args.link c.args.conduct)
     (c.index-bounds-a.is ∙ get_or_default c.args.bounds.now c.args.link.a c.index-bounds-a.result (pos 0) c.requires.first))
 
 back-Then-there : (c : Then-there) → c.take-back.new.bounds ≡ take_level c.args.level c.args.link.a (carried_bound c.args.side c.args.link c.args.conduct (at c.take-there.new.bounds c.args.link.b)) c.take-there.new.bounds
 back-Then-there c =
     c.take-back.ensures.bounds
     ∙ ap (λ u. take_level c.args.level c.args.link.a u c.take-there.new.bounds)
-    (c.carried-comes_back.ensures ∙ ap (carried_bound c.args.side c.args.link c.args.conduct)
+    (c.carried_bound-comes_back.ensures ∙ ap (carried_bound c.args.side c.args.link c.args.conduct)
     (c.index-bounds-b.is ∙ get_or_default c.take-there.new.bounds c.args.link.b c.index-bounds-b.result (pos 0) (let h = c.take-there.auto.bounds in let k = c.requires.second in omega arith)))
 
-comes-Then-there : (c : Then-there) → c.carried-comes.result ≡ carried_bound c.args.side c.args.link c.args.conduct (at c.args.bounds.now c.args.link.a)
-comes-Then-there c = c.carried-comes.ensures ∙ ap (carried_bound c.args.side c.args.link c.args.conduct)
+comes-Then-there : (c : Then-there) → c.carried_bound-comes.result ≡ carried_bound c.args.side c.args.link c.args.conduct (at c.args.bounds.now c.args.link.a)
+comes-Then-there c = c.carried_bound-comes.ensures ∙ ap (carried_bound c.args.side c.args.link c.args.conduct)
     (c.index-bounds-a.is ∙ get_or_default c.args.bounds.now c.args.link.a c.index-bounds-a.result (pos 0) c.requires.first)
 
 there-Else-there : (c : Else-there) → c.take-there.new.bounds ≡ take_level c.args.level c.args.link.b (carried_bound c.args.side c.args.link c.args.conduct (at c.args.bounds.now c.args.link.a)) c.args.bounds.now
 there-Else-there c =
     c.take-there.ensures.bounds
     ∙ ap (λ u. take_level c.args.level c.args.link.b u c.args.bounds.now)
-    (c.carried-comes.ensures ∙ ap (carried_bound c.args.side c.args.link c.args.conduct)
+    (c.carried_bound-comes.ensures ∙ ap (carried_bound c.args.side c.args.link c.args.conduct)
     (c.index-bounds-a.is ∙ get_or_default c.args.bounds.now c.args.link.a c.index-bounds-a.result (pos 0) c.requires.first))
 
 back-Else-there : (c : Else-there) → c.take-back.new.bounds ≡ take_level c.args.level c.args.link.a (carried_bound c.args.side c.args.link c.args.conduct (at c.take-there.new.bounds c.args.link.b)) c.take-there.new.bounds
 back-Else-there c =
     c.take-back.ensures.bounds
     ∙ ap (λ u. take_level c.args.level c.args.link.a u c.take-there.new.bounds)
-    (c.carried-comes_back.ensures ∙ ap (carried_bound c.args.side c.args.link c.args.conduct)
+    (c.carried_bound-comes_back.ensures ∙ ap (carried_bound c.args.side c.args.link c.args.conduct)
     (c.index-bounds-b.is ∙ get_or_default c.take-there.new.bounds c.args.link.b c.index-bounds-b.result (pos 0) (let h = c.take-there.auto.bounds in let k = c.requires.second in omega arith)))
 
-comes-Else-there : (c : Else-there) → c.carried-comes.result ≡ carried_bound c.args.side c.args.link c.args.conduct (at c.args.bounds.now c.args.link.a)
-comes-Else-there c = c.carried-comes.ensures ∙ ap (carried_bound c.args.side c.args.link c.args.conduct)
+comes-Else-there : (c : Else-there) → c.carried_bound-comes.result ≡ carried_bound c.args.side c.args.link c.args.conduct (at c.args.bounds.now c.args.link.a)
+comes-Else-there c = c.carried_bound-comes.ensures ∙ ap (carried_bound c.args.side c.args.link c.args.conduct)
     (c.index-bounds-a.is ∙ get_or_default c.args.bounds.now c.args.link.a c.index-bounds-a.result (pos 0) c.requires.first)
 
-comes_back : (c : Else-there) → c.carried-comes_back.result ≡ carried_bound c.args.side c.args.link c.args.conduct (at c.take-there.new.bounds c.args.link.b)
-comes_back c = c.carried-comes_back.ensures ∙ ap (carried_bound c.args.side c.args.link c.args.conduct)
+comes_back : (c : Else-there) → c.carried_bound-comes_back.result ≡ carried_bound c.args.side c.args.link c.args.conduct (at c.take-there.new.bounds c.args.link.b)
+comes_back c = c.carried_bound-comes_back.ensures ∙ ap (carried_bound c.args.side c.args.link c.args.conduct)
     (c.index-bounds-b.is ∙ get_or_default c.take-there.new.bounds c.args.link.b c.index-bounds-b.result (pos 0) (let h = c.take-there.auto.bounds in let k = c.requires.second in omega arith))
 
 pub returns-then-there-clause-spreads : goal.returns-then-there-clause-spreads
