@@ -9,11 +9,10 @@ use Rattle.v_lexer.specs.declared.fault.FaultKind.{FaultKind}
 use Rattle.v_lexer.specs.declared.fault.FaultKind.TheVariants as kind
 use Rattle.v_lexer.specs.declared.fault.LexFault.{LexFault}
 use Rattle.v_lexer.specs.Reading.{AreTokensOf, StopsAt}
-use Rattle.v_lexer.specs.Tokens.{Lexed, tokens_of}
+use Rattle.v_lexer.specs.Tokens.{TokensOrFault, tokens_of}
 use Rattle.v_lexer.specs.Tokens as lexer
 use Rattle.v_lexer.proofs.Pieces.{reads_only, stops_only}
 use Rattle.v_tree.specs.declared.modules.Description.{Description}
-use Rattle.v_tree.specs.Written.{slice_of}
 use Rattle.v_parser.specs.declared.fault.ParseFault.{ParseFault}
 use Rattle.v_parser.specs.declared.fault.ParseFault.TheVariants.{Unsupported, Syntax, Memory}
 use Rattle.v_parser.specs.Input.{Input, Outcome, is_left_out}
@@ -33,7 +32,7 @@ within text small =
       | inr e ↦ rw e refl
     ]
 
-pub lexed : (text : List ℕ) (answer : Lexed) → tokens_of text ≡ answer → netlist_of_text text ≡ netlist_of_lexer text answer
+pub lexed : (text : List ℕ) (answer : TokensOrFault) → tokens_of text ≡ answer → netlist_of_text text ≡ netlist_of_lexer text answer
 unfolding netlist_of_text
 lexed text answer is = ap (netlist_of_lexer text) is
 

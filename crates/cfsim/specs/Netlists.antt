@@ -18,7 +18,8 @@ use Rattle.v_tree.specs.declared.directives.Directive.{Directive}
 use Rattle.v_tree.specs.Fit.{AreFit, IsFitDescription}
 use Rattle.v_tree.specs.Spelling.{spelling}
 use Rattle.v_tree.specs.Tree.{modules_among, udps_among, directives_among}
-use Rattle.v_tree.specs.Written.{AreWritten, slice_of}
+use Rattle.v_lexer.specs.Sound.{bytes_of}
+use Rattle.v_tree.specs.Written.{AreWritten}
 use Rattle.v_parser.specs.declared.fault.ParseFault.{ParseFault}
 use Rattle.v_parser.specs.declared.fault.ParseFault.TheVariants as parser
 use Rattle.v_parser.specs.Input.{Outcome, is_left_out}
@@ -90,7 +91,7 @@ pub record AreSpelled (text : List ℕ) (tokens : List Token) (ds : List Descrip
 
 -- what is wrong with a token that is refused
 abbrev pub fault_at : List ℕ → Token → LineFault
-fault_at text token = if is_left_out token.kind (slice_of text token) then Unsupported else SyntaxError
+fault_at text token = if is_left_out token.kind (bytes_of text token) then Unsupported else SyntaxError
 
 -- the text is refused at the line of one of its tokens
 abbrev pub IsRefusedAtToken : List ℕ → List Token → Result Netlist Refusal → Type 0

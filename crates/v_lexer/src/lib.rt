@@ -8,7 +8,7 @@ mod lexer;
 mod lists;
 mod literals;
 mod numbers;
-mod places;
+mod pieces;
 mod quoted;
 #[cfg(test)]
 mod tests;

@@ -5,7 +5,8 @@ use Rattle.v_lexer.specs.declared.token.Token.{Token}
 use Rattle.v_lexer.specs.declared.token.TokenKind.TheVariants.{End}
 use Rattle.v_lexer.specs.Reading.{AreTokensOf}
 use Rattle.v_lexer.proofs.Sound.{are_sound}
-use Rattle.v_tree.specs.Written.{Form, form_of, form_by, slice_of}
+use Rattle.v_lexer.specs.Sound.{bytes_of}
+use Rattle.v_tree.specs.Written.{Form, form_of, form_by}
 use Rattle.v_tree.specs.Written as form
 use Rattle.v_parser.specs.declared.fault.ParseFault.{ParseFault}
 use Rattle.v_parser.specs.declared.fault.ParseFault.TheVariants.{Unsupported, Syntax, Memory}
@@ -65,9 +66,9 @@ refused_in : (text : List ℕ) (all : List Token) (number : ℕ) (tokens : List 
     → Refuses text all (refusal (record { text = text; tokens = tokens; number = number }))
 unfolding refusal
 refused_in text all number [] is ended = absurd ended
-refused_in text all number (token ∷ tokens) is ended = by (is_left_out token.kind (slice_of text token)) refl
+refused_in text all number (token ∷ tokens) is ended = by (is_left_out token.kind (bytes_of text token)) refl
   where
-    by : (b : Bool) → is_left_out token.kind (slice_of text token) ≡ b → Refuses text all (if b then Unsupported number else Syntax number)
+    by : (b : Bool) → is_left_out token.kind (bytes_of text token) ≡ b → Refuses text all (if b then Unsupported number else Syntax number)
     by true e = (λ memory. cc, (token, there all number token tokens is, e))
     by false e = (λ memory. cc, (token, there all number token tokens is, e))
 
@@ -78,7 +79,7 @@ refused text all i within = subst (λ (t : List ℕ). Refuses t all (refusal i))
 -- a token at the end of the text says so
 end_form : (text : List ℕ) (token : Token) → token.kind ≡ End → form_of text token ≡ form.End
 unfolding form_of
-end_form text token is = ap (λ k. form_by k (slice_of text token)) is
+end_form text token is = ap (λ k. form_by k (bytes_of text token)) is
 
 -- what is left after the first token is a last part of the list, where that token isn't the end of the text
 next_within : (text : List ℕ) (all : List Token) (number : ℕ) (tokens : List Token) → drop number all ≡ tokens → AreEnded tokens → front_in text tokens ≢ form.End → IsWithin text all (next_in text number tokens)

@@ -9,7 +9,8 @@ use Rattle.v_lexer.specs.declared.values.Literal.{Literal}
 use Rattle.v_lexer.specs.Words.{left_out_words}
 use Rattle.v_tree.specs.declared.locations.Location.{Location}
 use Rattle.v_tree.specs.declared.locations.Name.{Name}
-use Rattle.v_tree.specs.Written.{Form, form_of, slice_of}
+use Rattle.v_lexer.specs.Sound.{bytes_of}
+use Rattle.v_tree.specs.Written.{Form, form_of}
 use Rattle.v_tree.specs.Written as form
 use Rattle.v_parser.specs.declared.fault.ParseFault.{ParseFault}
 use Rattle.v_parser.specs.declared.fault.ParseFault.TheVariants.{Unsupported, Syntax, Memory}
@@ -56,7 +57,7 @@ kind_of i = kind_in i.tokens
 
 abbrev pub bytes_in : List ℕ → List Token → List ℕ
 bytes_in text [] = []
-bytes_in text (token ∷ tokens) = slice_of text token
+bytes_in text (token ∷ tokens) = bytes_of text token
 
 -- the bytes of the next token
 unfoldable pub bytes : Input → List ℕ
@@ -74,7 +75,7 @@ is_left_out _ bytes = false
 
 abbrev pub is_unsupported_in : List ℕ → List Token → Bool
 is_unsupported_in text [] = false
-is_unsupported_in text (token ∷ tokens) = is_left_out token.kind (slice_of text token)
+is_unsupported_in text (token ∷ tokens) = is_left_out token.kind (bytes_of text token)
 
 -- why the next token is refused
 unfoldable pub refusal : Input → ParseFault
