@@ -244,8 +244,8 @@ unfoldable pub choice : {A : Type 0} → (Form → Form → Bool) → Reader A �
 choice sees p q = λ i. if sees (front i) (front (next i)) then p i else q i
 
 -- what is left after a comma, where one comes next
-abbrev pub passed_comma : Input → Input
-passed_comma i = if is_mark 44 (front i) then next i else i
+abbrev pub after_comma : Input → Input
+after_comma i = if is_mark 44 (front i) then next i else i
 
 -- parts, each behind a comma, put behind those that were found, in so many turns at most
 unfoldable pub commas_from : {A : Type 0} → Reader A → ℕ → List A → Reader (List A)
@@ -258,8 +258,8 @@ unfoldable pub commas : {A : Type 0} → Reader A → List A → Reader (List A)
 commas p found = λ i. commas_from p (length i.tokens) found i
 
 -- one part or several, with commas between
-unfoldable pub separated : {A : Type 0} → Reader A → Reader (List A)
-separated p = p >>= λ x. commas p (x ∷ [])
+unfoldable pub comma_list : {A : Type 0} → Reader A → Reader (List A)
+comma_list p = p >>= λ x. commas p (x ∷ [])
 
 -- parts up to a token that ends them, in so many turns at most
 unfoldable pub many_from : {A : Type 0} → (Form → Bool) → Reader A → ℕ → List A → Reader (List A)
