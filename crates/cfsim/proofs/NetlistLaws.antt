@@ -11,7 +11,7 @@ use Rattle.v_lexer.specs.declared.fault.LexFault.{LexFault}
 use Rattle.v_lexer.specs.Reading.{AreTokensOf, StopsAt}
 use Rattle.v_lexer.specs.Tokens.{TokensOrFault, tokens_of}
 use Rattle.v_lexer.specs.Tokens as lexer
-use Rattle.v_lexer.proofs.Pieces.{reads_only, stops_only}
+use Rattle.v_lexer.proofs.Agreement.{reads_only, stops_only}
 use Rattle.v_tree.specs.declared.modules.Description.{Description}
 use Rattle.v_parser.specs.declared.fault.ParseFault.{ParseFault}
 use Rattle.v_parser.specs.declared.fault.ParseFault.TheVariants.{Unsupported, Syntax, Memory}

@@ -3,8 +3,8 @@ use Rattle.std.specs.Prelude.{◌≡◌, ℕ, List, slice_get, Option, Some, Non
 use Rattle.std.specs.Option.{ok_or, option_map_or}
 use Rattle.gate_net.specs.declared.netlist.Netlist.{Netlist}
 use Rattle.first_netlist.specs.Form.{netlist_of}
-use Rattle.first_netlist.specs.declared.fault.NetlistFault.{NetlistFault}
-use Rattle.first_netlist.specs.declared.fault.NetlistFault.TheVariants as form
+use Rattle.gate_net.specs.declared.fault.BuildFault.{BuildFault}
+use Rattle.gate_net.specs.declared.fault.BuildFault.TheVariants as form
 use Rattle.v_lexer.specs.declared.token.Token.{Token}
 use Rattle.v_lexer.specs.declared.fault.FaultKind.{FaultKind}
 use Rattle.v_lexer.specs.declared.fault.FaultKind.TheVariants as kind
@@ -49,7 +49,7 @@ refusal_of_parser tokens (parser.Unsupported n) = Faulty Unsupported (line_of to
 refusal_of_parser tokens parser.Memory = refusal.Memory
 
 -- the refusal of a tree without a netlist
-abbrev pub refusal_of_tree : NetlistFault → Refusal
+abbrev pub refusal_of_tree : BuildFault → Refusal
 refusal_of_tree form.Memory = refusal.Memory
 refusal_of_tree form.Unbuilt = Unbuilt
 

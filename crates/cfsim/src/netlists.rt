@@ -11,8 +11,8 @@ ghost use Rattle.cfsim.specs.Refusals.{Tells, IsOfText};
 
 use crate::line_fault::LineFault;
 use crate::refusal::Refusal;
-use first_netlist::{NetlistFault, netlist_of};
-use gate_net::Netlist;
+use first_netlist::netlist_of;
+use gate_net::{BuildFault, Netlist};
 use outside_io::Bytes;
 use std::alloc::Global;
 use v_lexer::{LexFault, Token, tokens};
@@ -51,12 +51,12 @@ fn refusal_of_parser(text: &[u8], tokens: &[Token], fault: ParseFault) -> Refusa
 }
 
 /// The refusal of a tree without a netlist.
-fn refusal_of_tree(fault: NetlistFault) -> Refusal
+fn refusal_of_tree(fault: BuildFault) -> Refusal
     ensures { result ≡ refusal_of_tree fault }
 {
     match fault {
-        NetlistFault::Memory => Refusal::Memory,
-        NetlistFault::Unbuilt => Refusal::Unbuilt,
+        BuildFault::Memory => Refusal::Memory,
+        BuildFault::Unbuilt => Refusal::Unbuilt,
     }
 }
 

@@ -1,8 +1,7 @@
 -- What each element gives, as a loop collects it.
 use Rattle.std.proofs.Common.{◌≡◌, ℕ, suc, ◌+◌, ◌<◌, ◌≤◌, List, [], ◌∷◌, ◌++◌, length, get_or, drop, Option, Some, None, refl, ap, ◌∙◌, append_assoc, add-one, drop-cons}
 use Rattle.std.proofs.lemmas.List.{append-nil, drop_all}
-use Rattle.first_netlist.specs.Steps.{◌>>=◌}
-use Rattle.first_netlist.specs.Meaning.{each}
+use Rattle.gate_net.specs.Steps.{◌>>=◌, each}
 
 -- what was collected, and what the others give
 abbrev pub collected : {B : Type 0} → List B → Option (List B) → Option (List B)

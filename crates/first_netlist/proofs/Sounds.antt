@@ -12,10 +12,10 @@ use Rattle.gate_net.specs.declared.netlist.Netlist.{Netlist}
 use Rattle.name_table.specs.Names.{is_among, is_distinct, index_of}
 use Rattle.first_netlist.specs.declared.tree.Instance.{Instance}
 use Rattle.std.specs.Prelude.{IfOk, IsTrue}
-use Rattle.first_netlist.specs.declared.fault.NetlistFault.{NetlistFault}
-use Rattle.first_netlist.specs.Steps.{◌>>=◌, Gives}
+use Rattle.gate_net.specs.declared.fault.BuildFault.{BuildFault}
+use Rattle.gate_net.specs.Steps.{◌>>=◌, Gives, each}
 use Rattle.first_netlist.specs.Declarations.{Declarations}
-use Rattle.first_netlist.specs.Meaning.{limit, distinct, each, net_names, names_besides, nets_of, places_from, ports_agree, ports_of, inputs_at, gate_of, is_apart, meaning}
+use Rattle.first_netlist.specs.Meaning.{limit, distinct, net_names, names_besides, nets_of, places_from, ports_agree, ports_of, inputs_at, gate_of, is_apart, meaning}
 use Rattle.first_netlist.proofs.Places.{place_within}
 
 -- the value of a step that found something
@@ -175,10 +175,10 @@ meaning_distinct d netlist e =
     let g = cond_some (is_apart (b.0.0 ++ driven_nets c.0) && leb (length c.0) limit) (made a.0 b.0 c.0) netlist c.2 in
     subst (λ (n : Netlist). is_distinct n.names ≡ true) g.1 (nets_distinct d a.0 a.1)
 
-pub result_distinct : (d : Declarations) (r : Result Netlist NetlistFault) → Gives (λ netlist. netlist) r (meaning d) → IfOk r (λ netlist. IsTrue (is_distinct netlist.names))
+pub result_distinct : (d : Declarations) (r : Result Netlist BuildFault) → Gives (λ netlist. netlist) r (meaning d) → IfOk r (λ netlist. IsTrue (is_distinct netlist.names))
 result_distinct d (Ok netlist) given = meaning_distinct d netlist given
 result_distinct d (Err e) given = tt
 
-pub result_sound : (d : Declarations) (r : Result Netlist NetlistFault) → Gives (λ netlist. netlist) r (meaning d) → IfOk r IsSound
+pub result_sound : (d : Declarations) (r : Result Netlist BuildFault) → Gives (λ netlist. netlist) r (meaning d) → IfOk r IsSound
 result_sound d (Ok netlist) given = meaning_sound d netlist given
 result_sound d (Err e) given = tt

@@ -5,7 +5,7 @@ use Rattle.first_netlist.specs.declared.tree.Instance.{Instance}
 use Rattle.first_netlist.specs.declared.tree.Item.{Item}
 use Rattle.first_netlist.specs.declared.tree.Item.TheVariants.{Ports, Wires, Gates}
 use Rattle.first_netlist.specs.declared.tree.Module.{Module}
-use Rattle.first_netlist.specs.Steps.{◌>>=◌}
+use Rattle.gate_net.specs.Steps.{◌>>=◌}
 
 -- a module: the names of its header, and its items
 pub record Tree : Type 0 where

@@ -6,7 +6,7 @@ use Rattle.gate_net.specs.declared.netlist.Gate.{Gate}
 use Rattle.gate_net.specs.declared.netlist.Netlist.{Netlist}
 use Rattle.name_table.specs.Names.{is_among, index_of, is_distinct}
 use Rattle.first_netlist.specs.declared.tree.Instance.{Instance}
-use Rattle.first_netlist.specs.Steps.{◌>>=◌}
+use Rattle.gate_net.specs.Steps.{◌>>=◌, each}
 use Rattle.first_netlist.specs.Declarations.{Declarations}
 
 -- the most nets, and the most gates
@@ -16,14 +16,6 @@ limit = 1048576
 -- the names, where none stands twice
 unfoldable pub distinct : List (List ℕ) → Option (List (List ℕ))
 distinct names = if is_distinct names then Some names else None
-
--- what each element gives, where each gives something
-abbrev pub each : {A B : Type 0} → (A → Option B) → List A → Option (List B)
-each f [] = Some []
-each f (x ∷ xs) = do
-  first ← f x
-  others ← each f xs
-  Some (first ∷ others)
 
 -- each name stands among the others
 abbrev pub all_among : List (List ℕ) → List (List ℕ) → Bool

@@ -2,12 +2,12 @@
 ghost use Rattle.std.specs.Prelude.{◌≡◌, ◌<◌, ◌≤◌, ◌++◌, ◌||◌, not, filter, length, IfOk, OnOk};
 ghost use Rattle.std.specs.List.{list_all};
 ghost use Rattle.name_table.specs.Names.{is_among};
-ghost use Rattle.first_netlist.specs.Steps.{Gives};
+ghost use Rattle.gate_net.specs.Steps.{Gives};
 ghost use Rattle.first_netlist.specs.Meaning.{distinct, all_among, none_among, named, instance_names, places_from, limit};
 
-use crate::fault::NetlistFault;
 use crate::tree::Instance;
 use byte_lists::Bytes;
+use gate_net::BuildFault;
 use name_table::NameTable;
 use std::alloc::{AllocError, Global};
 
@@ -19,21 +19,21 @@ fn copy_of(alloc: Global, name: &Bytes) -> Result<Bytes, AllocError>
 }
 
 /// The names as a table, where none stands twice.
-pub fn table_of(alloc: Global, names: &[Bytes]) -> Result<NameTable, NetlistFault>
+pub fn table_of(alloc: Global, names: &[Bytes]) -> Result<NameTable, BuildFault>
     ensures table { Gives (λ table. table) result (distinct names.now) }
     ensures same { IfOk result (λ table. table ≡ names.now) }
 {
     let mut table = NameTable::new(alloc);
     for name in names {
         if !table.add(name.as_slice())? {
-            return Err(NetlistFault::Unbuilt);
+            return Err(BuildFault::Unbuilt);
         }
     }
     Ok(table)
 }
 
 /// Refuses names of which one stands twice.
-pub fn check_distinct(alloc: Global, names: &[Bytes]) -> Result<(), NetlistFault>
+pub fn check_distinct(alloc: Global, names: &[Bytes]) -> Result<(), BuildFault>
     ensures { Gives (λ _. names.now) result (distinct names.now) }
 {
     let _ = table_of(alloc, names)?;

@@ -14,10 +14,11 @@ use Rattle.gate_net.specs.declared.stimulus.ValueLine.{ValueLine}
 use Rattle.gate_net.specs.declared.stimulus.Stimulus.{Stimulus}
 use Rattle.gate_net.specs.Sound.{AreApart, IsSound, IsLawful}
 use Rattle.name_table.specs.Names.{is_among, is_distinct}
-use Rattle.first_vectors.specs.declared.fault.VectorFault.{VectorFault}
+use Rattle.gate_net.specs.declared.fault.BuildFault.{BuildFault}
 use Rattle.first_vectors.specs.declared.row.Row.TheVariants.{Values, End}
 use Rattle.first_vectors.specs.Fields.{name_in, table_of, number_after, time_of}
-use Rattle.first_vectors.specs.Reading.{values_of, name_of, input_named, inputs_named, listed, inputs_of, end_row, value_row, row_of, rows_of, stimulus_after, stimulus_in, stimulus_of, Gives}
+use Rattle.gate_net.specs.Steps.{Gives}
+use Rattle.first_vectors.specs.Reading.{values_of, name_of, input_named, inputs_named, listed, inputs_of, end_row, value_row, row_of, rows_of, stimulus_after, stimulus_in, stimulus_of}
 use Rattle.first_vectors.specs.First.{IsValue, IsRow, IsInput, row_fields, IsFirstVectors}
 use Rattle.first_vectors.proofs.Names.{is_among-not, names_apart}
 use Rattle.first_vectors.proofs.Steps.{zip_length, zip_at, Rises, rises_from}
@@ -142,5 +143,5 @@ is_again netlist text stimulus sound distinct is =
     ap (stimulus_in netlist) is.spelled ∙ rw (inputs, rows) refl
 
 -- what reading answered is the one stimulus that the text says
-pub only_again : (result : Result Stimulus VectorFault) (read : Option Stimulus) (stimulus : Stimulus) → Gives (λ s. s) result read → read ≡ Some stimulus → Gives (λ s. s) result (Some stimulus)
+pub only_again : (result : Result Stimulus BuildFault) (read : Option Stimulus) (stimulus : Stimulus) → Gives (λ s. s) result read → read ≡ Some stimulus → Gives (λ s. s) result (Some stimulus)
 only_again result read stimulus gives e = subst (λ (r : Option Stimulus). Gives (λ s. s) result r) e gives

@@ -14,11 +14,12 @@ use Rattle.gate_net.specs.declared.stimulus.ValueLine.{ValueLine}
 use Rattle.gate_net.specs.declared.stimulus.Stimulus.{Stimulus}
 use Rattle.gate_net.specs.Sound.{AreApart, IsLawful, times_of}
 use Rattle.name_table.specs.Names.{is_distinct}
-use Rattle.first_vectors.specs.declared.fault.VectorFault.{VectorFault}
+use Rattle.gate_net.specs.declared.fault.BuildFault.{BuildFault}
 use Rattle.first_vectors.specs.declared.row.Row.{Row}
 use Rattle.first_vectors.specs.declared.row.Row.TheVariants.{Values, End}
-use Rattle.first_vectors.specs.Fields.{◌>>=◌, name_in, table_of, two_of, time_of}
-use Rattle.first_vectors.specs.Reading.{value_of, values_of, name_of, input_named, inputs_named, listed, inputs_of, end_row, value_row, row_of, joined, rows_of, is_first, stimulus_after, stimulus_in, stimulus_of, Gives}
+use Rattle.gate_net.specs.Steps.{◌>>=◌, Gives}
+use Rattle.first_vectors.specs.Fields.{name_in, table_of, two_of, time_of}
+use Rattle.first_vectors.specs.Reading.{value_of, values_of, name_of, input_named, inputs_named, listed, inputs_of, end_row, value_row, row_of, joined, rows_of, is_first, stimulus_after, stimulus_in, stimulus_of}
 use Rattle.first_vectors.specs.First.{IsValue, IsRow, IsInput, row_fields, spelling, IsFirstVectors}
 use Rattle.first_vectors.proofs.Names.{distinct_apart}
 use Rattle.first_vectors.proofs.Steps.{bind_some, guard_some, zip_length, zip_at, time_small, Rises, rises_below, rises_pairs}
@@ -257,10 +258,10 @@ unfolding stimulus_of
 is_found netlist text stimulus e = is_found_in netlist text (table_of text) stimulus refl e
 
 -- what reading answered is in the form
-pub answer_found : (netlist : Netlist) (text : List ℕ) (result : Result Stimulus VectorFault) → Gives (λ s. s) result (stimulus_of netlist text) → IfOk result (λ s. IsFirstVectors netlist text s)
+pub answer_found : (netlist : Netlist) (text : List ℕ) (result : Result Stimulus BuildFault) → Gives (λ s. s) result (stimulus_of netlist text) → IfOk result (λ s. IsFirstVectors netlist text s)
 answer_found netlist text (Ok stimulus) gives = is_found netlist text stimulus gives
 answer_found netlist text (Err fault) gives = tt
 
-pub answer_lawful : (netlist : Netlist) (text : List ℕ) (result : Result Stimulus VectorFault) → Gives (λ s. s) result (stimulus_of netlist text) → IfOk result (λ s. IsLawful netlist s)
+pub answer_lawful : (netlist : Netlist) (text : List ℕ) (result : Result Stimulus BuildFault) → Gives (λ s. s) result (stimulus_of netlist text) → IfOk result (λ s. IsLawful netlist s)
 answer_lawful netlist text (Ok stimulus) gives = (is_found netlist text stimulus gives).lawful
 answer_lawful netlist text (Err fault) gives = tt

@@ -11,7 +11,8 @@ use Rattle.gate_net.specs.declared.netlist.Netlist.{Netlist}
 use Rattle.gate_net.specs.Sound.{IsSound}
 use Rattle.name_table.specs.Names.{same_name, is_among, is_distinct, index_of}
 use Rattle.name_table.proofs.Found.{is_distinct-push}
-use Rattle.first_vectors.specs.Fields.{◌>>=◌, fields_of, name_in}
+use Rattle.gate_net.specs.Steps.{◌>>=◌}
+use Rattle.first_vectors.specs.Fields.{fields_of, name_in}
 use Rattle.first_vectors.specs.Reading.{name_of, input_names, input_named, inputs_named, listed}
 
 -- ---- names apart

@@ -1,5 +1,5 @@
 -- What a text of the first vector form says, from its first line to its last.
-use Rattle.std.specs.Prelude.{◌≡◌, ℕ, ◌+◌, Bool, false, ◌&&◌, List, [], ◌∷◌, length, map, find, codes, Option, Some, None, Result, Ok, Err, nat_le, ◌==◌, if◌then◌else◌, slice_index_or}
+use Rattle.std.specs.Prelude.{ℕ, ◌+◌, Bool, false, ◌&&◌, List, [], ◌∷◌, length, map, find, codes, Option, Some, None, nat_le, ◌==◌, if◌then◌else◌, slice_index_or}
 use Rattle.std.specs.Str.{bytes_eq}
 use Rattle.level_range.specs.declared.range.Logic.{Logic}
 use Rattle.level_range.specs.declared.range.Logic.TheVariants.{Zero, One}
@@ -7,11 +7,10 @@ use Rattle.gate_net.specs.declared.netlist.Netlist.{Netlist}
 use Rattle.gate_net.specs.declared.stimulus.ValueLine.{ValueLine}
 use Rattle.gate_net.specs.declared.stimulus.Stimulus.{Stimulus}
 use Rattle.name_table.specs.Names.{is_distinct}
-use Rattle.first_vectors.specs.declared.fault.VectorFault.{VectorFault}
-use Rattle.first_vectors.specs.declared.fault.VectorFault.TheVariants.{Memory, Unbuilt}
 use Rattle.first_vectors.specs.declared.row.Row.{Row}
 use Rattle.first_vectors.specs.declared.row.Row.TheVariants.{Values, End}
-use Rattle.first_vectors.specs.Fields.{◌>>=◌, name_in, table_of, two_of, time_of}
+use Rattle.gate_net.specs.Steps.{◌>>=◌}
+use Rattle.first_vectors.specs.Fields.{name_in, table_of, two_of, time_of}
 
 -- the value of a byte 0 or 1
 abbrev pub value_of : ℕ → Option Logic
@@ -119,15 +118,6 @@ stimulus_in netlist (first ∷ second ∷ rows) =
 -- the stimulus that a text says
 unfoldable pub stimulus_of : Netlist → List ℕ → Option Stimulus
 stimulus_of netlist text = stimulus_in netlist (table_of text)
-
--- what a function returned, seen by view, is what reading gives, unless memory ran out
-abbrev pub Fails : {Y : Type 0} → VectorFault → Option Y → Type 0
-Fails Memory read = Unit {0}
-Fails Unbuilt read = read ≡ None
-
-abbrev pub Gives : {X Y : Type 0} → (X → Y) → Result X VectorFault → Option Y → Type 0
-Gives view (Ok x) read = read ≡ Some (view x)
-Gives view (Err e) read = Fails e read
 
 -- the time of a line
 abbrev pub time_at : Row → ℕ

@@ -2,12 +2,12 @@ ghost use Rattle.std.specs.Prelude.{◌≡◌, map, IsTrue, IfOk};
 ghost use Rattle.gate_net.specs.Sound.{IsSound};
 ghost use Rattle.name_table.specs.Names.{is_distinct};
 ghost use Rattle.first_vectors.specs.Fields.{fields_of, name_in};
-ghost use Rattle.first_vectors.specs.Reading.{input_names, input_named, listed, inputs_of, Gives};
+ghost use Rattle.gate_net.specs.Steps.{Gives};
+ghost use Rattle.first_vectors.specs.Reading.{input_names, input_named, listed, inputs_of};
 
-use crate::fault::VectorFault;
 use crate::fields::field_at;
 use byte_lists::Bytes;
-use gate_net::Netlist;
+use gate_net::{BuildFault, Netlist};
 use name_table::NameTable;
 use std::alloc::{AllocError, Global};
 
@@ -45,7 +45,7 @@ fn name_in(alloc: Global, field: &[u8]) -> Result<Bytes, AllocError>
     Ok(Bytes::from_vec(name))
 }
 
-fn listed_inputs(alloc: Global, netlist: &Netlist, names: &[u8]) -> Result<Vec<u32>, VectorFault>
+fn listed_inputs(alloc: Global, netlist: &Netlist, names: &[u8]) -> Result<Vec<u32>, BuildFault>
     requires sound { IsSound netlist.now }
     requires distinct { IsTrue (is_distinct netlist.now.names) }
     ensures { Gives (λ inputs. inputs.items) result
@@ -61,10 +61,10 @@ fn listed_inputs(alloc: Global, netlist: &Netlist, names: &[u8]) -> Result<Vec<u
         let name = owned.as_slice();
         let input = match input_in(&table, netlist, name) {
             Some(input) => input,
-            None => return Err(VectorFault::Unbuilt),
+            None => return Err(BuildFault::Unbuilt),
         };
         if !seen.add(name)? {
-            return Err(VectorFault::Unbuilt);
+            return Err(BuildFault::Unbuilt);
         }
         inputs.push(input)?;
         match others {
@@ -76,13 +76,13 @@ fn listed_inputs(alloc: Global, netlist: &Netlist, names: &[u8]) -> Result<Vec<u
 
 /// The inputs that the second line of a text lists.
 #[tactic(auto, unfolding(crate::specs::Reading::inputs_of, crate::specs::Reading::listed))]
-pub fn inputs_in(alloc: Global, netlist: &Netlist, line: &[u8]) -> Result<Vec<u32>, VectorFault>
+pub fn inputs_in(alloc: Global, netlist: &Netlist, line: &[u8]) -> Result<Vec<u32>, BuildFault>
     requires sound { IsSound netlist.now }
     requires distinct { IsTrue (is_distinct netlist.now.names) }
     ensures { Gives (λ inputs. inputs.items) result (inputs_of netlist.now (fields_of line.now)) }
 {
     match field_at(line) {
         (word, Some(names)) if word == b"inputs".as_slice() => listed_inputs(alloc, netlist, names),
-        _ => Err(VectorFault::Unbuilt),
+        _ => Err(BuildFault::Unbuilt),
     }
 }

@@ -1,5 +1,6 @@
 use Rattle.std.proofs.Common.{◌≡◌, drop}
-use Rattle.first_netlist.specs.Meaning.{each, gate_of}
+use Rattle.gate_net.specs.Steps.{each}
+use Rattle.first_netlist.specs.Meaning.{gate_of}
 use Rattle.first_netlist.proofs.Each.{collected}
 use Rattle.first_netlist.proofs.elaborate.gates_of.Given as goal
 

@@ -1,6 +1,6 @@
 use Rattle.std.proofs.Common.{◌≡◌, drop}
 use Rattle.name_table.specs.Names.{index_of}
-use Rattle.first_netlist.specs.Meaning.{each}
+use Rattle.gate_net.specs.Steps.{each}
 use Rattle.first_netlist.proofs.Each.{collected}
 use Rattle.first_netlist.proofs.elaborate.nets_at.Given as goal
 

@@ -1,5 +1,5 @@
 use Rattle.std.proofs.Common.{◌≡◌, drop}
-use Rattle.first_netlist.specs.Meaning.{each}
+use Rattle.gate_net.specs.Steps.{each}
 use Rattle.first_netlist.specs.Declarations.{declared, declaring}
 use Rattle.first_netlist.specs.Form.{item_of}
 use Rattle.first_netlist.proofs.form.items_of.Given as goal

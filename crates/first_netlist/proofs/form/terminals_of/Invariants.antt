@@ -1,5 +1,5 @@
 use Rattle.std.proofs.Common.{◌≡◌, drop}
-use Rattle.first_netlist.specs.Meaning.{each}
+use Rattle.gate_net.specs.Steps.{each}
 use Rattle.first_netlist.specs.Form.{terminal_of}
 use Rattle.first_netlist.proofs.Each.{collected}
 use Rattle.first_netlist.proofs.form.terminals_of.Given as goal
