@@ -9,11 +9,11 @@ ghost use Rattle.cfsim.specs.Answer.{netlist_limit};
 ghost use Rattle.cfsim.specs.Netlists.{netlist_of_tree, netlist_of_text, refusal_of_lexer, refusal_of_parser, refusal_of_tree};
 ghost use Rattle.cfsim.specs.Refusals.{Tells, IsOfText};
 
+use byte_lists::Bytes;
 use crate::line_fault::LineFault;
 use crate::refusal::Refusal;
 use first_netlist::netlist_of;
 use gate_net::{BuildFault, Netlist};
-use outside_io::Bytes;
 use std::alloc::Global;
 use v_lexer::{LexFault, Token, tokens};
 use v_parser::{ParseFault, parse};
