@@ -7,7 +7,6 @@ use Rattle.gate_net.specs.declared.fault.BuildFault.{BuildFault}
 use Rattle.gate_net.specs.declared.fault.BuildFault.TheVariants as form
 use Rattle.v_lexer.specs.declared.token.Token.{Token}
 use Rattle.v_lexer.specs.declared.fault.FaultKind.{FaultKind}
-use Rattle.v_lexer.specs.declared.fault.FaultKind.TheVariants as kind
 use Rattle.v_lexer.specs.declared.fault.LexFault.{LexFault}
 use Rattle.v_lexer.specs.declared.fault.LexFault.TheVariants as lex
 use Rattle.v_lexer.specs.Tokens.{tokens_of}
@@ -25,17 +24,14 @@ use Rattle.v_parser.specs.declared.fault.ParseFault.TheVariants as parser
 use Rattle.v_parser.specs.Input.{Outcome, is_left_out}
 use Rattle.v_parser.specs.Reading.{descriptions_of}
 use Rattle.cfsim.specs.declared.line_fault.LineFault.{LineFault}
-use Rattle.cfsim.specs.declared.line_fault.LineFault.TheVariants.{BadByte, OpenComment, OpenString, BadNumber, SyntaxError, Unsupported}
+use Rattle.cfsim.specs.declared.line_fault.LineFault.TheVariants.{Lexical, SyntaxError, Unsupported}
 use Rattle.cfsim.specs.declared.refusal.Refusal.{Refusal}
 use Rattle.cfsim.specs.declared.refusal.Refusal.TheVariants.{Faulty, Unbuilt}
 use Rattle.cfsim.specs.declared.refusal.Refusal.TheVariants as refusal
 
 -- the refusal of a text without tokens
 abbrev pub refusal_of_lexer : LexFault → Refusal
-refusal_of_lexer (lex.BadByte line) = Faulty BadByte line
-refusal_of_lexer (lex.OpenComment line) = Faulty OpenComment line
-refusal_of_lexer (lex.OpenString line) = Faulty OpenString line
-refusal_of_lexer (lex.BadNumber line) = Faulty BadNumber line
+refusal_of_lexer (lex.Faulty kind line) = Faulty (Lexical kind) line
 refusal_of_lexer lex.Memory = refusal.Memory
 
 -- the line of a token
@@ -79,10 +75,7 @@ netlist_of_text text = netlist_of_lexer text (tokens_of text)
 
 -- a lexical fault by its kind
 abbrev pub fault_of : FaultKind → LineFault
-fault_of kind.BadByte = BadByte
-fault_of kind.OpenComment = OpenComment
-fault_of kind.OpenString = OpenString
-fault_of kind.BadNumber = BadNumber
+fault_of kind = Lexical kind
 
 -- the tokens of the text are those with which the modules, primitives and directives are written
 pub record AreSpelled (text : List ℕ) (tokens : List Token) (ds : List Description) : Type 0 where

@@ -9,9 +9,9 @@ ghost use Rattle.cfsim.specs.Answer.{netlist_limit};
 ghost use Rattle.cfsim.specs.Netlists.{netlist_of_tree, netlist_of_text, refusal_of_lexer, refusal_of_parser, refusal_of_tree};
 ghost use Rattle.cfsim.specs.Refusals.{Tells, IsOfText};
 
-use byte_lists::Bytes;
 use crate::line_fault::LineFault;
 use crate::refusal::Refusal;
+use byte_lists::Bytes;
 use first_netlist::netlist_of;
 use gate_net::{BuildFault, Netlist};
 use std::alloc::Global;
@@ -24,10 +24,7 @@ fn refusal_of_lexer(fault: LexFault) -> Refusal
     ensures { result ≡ refusal_of_lexer fault }
 {
     match fault {
-        LexFault::BadByte(line) => Refusal::Faulty(LineFault::BadByte, line),
-        LexFault::OpenComment(line) => Refusal::Faulty(LineFault::OpenComment, line),
-        LexFault::OpenString(line) => Refusal::Faulty(LineFault::OpenString, line),
-        LexFault::BadNumber(line) => Refusal::Faulty(LineFault::BadNumber, line),
+        LexFault::Faulty(kind, line) => Refusal::Faulty(LineFault::Lexical(kind), line),
         LexFault::Memory => Refusal::Memory,
     }
 }

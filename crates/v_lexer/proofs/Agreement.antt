@@ -8,9 +8,9 @@ use Rattle.v_lexer.specs.declared.token.TokenKind.{TokenKind}
 use Rattle.v_lexer.specs.declared.token.Token.{Token}
 use Rattle.v_lexer.specs.declared.token.Piece.{Piece}
 use Rattle.v_lexer.specs.declared.fault.FaultKind.{FaultKind}
-use Rattle.v_lexer.specs.declared.fault.FaultKind.TheVariants as kind
+use Rattle.v_lexer.specs.declared.fault.LexFault.TheVariants.{Faulty}
 use Rattle.v_lexer.specs.Pieces.{table_after}
-use Rattle.v_lexer.specs.Tokens.{TokensOrFault, line_after, lines_after, fault_at, end_at, tokens_of_piece, onto, tokens_from, tokens_of}
+use Rattle.v_lexer.specs.Tokens.{TokensOrFault, line_after, lines_after, end_at, tokens_of_piece, onto, tokens_from, tokens_of}
 use Rattle.v_lexer.specs.Reading.{line_of, Stands, Reads, Stops, AreTokensOf, StopsAt, IsFaultOf, Rise}
 use Rattle.v_lexer.proofs.Whole.{first_token, front_fails}
 
@@ -57,15 +57,15 @@ reads_only text tokens are = reads_tokens text false 0 are.0 tokens are.1
 
 -- the fault behind pieces is that of the function
 stops_tokens : (text : List ℕ) (wrong : FaultKind) (line : ℕ) (table : Bool) (at : ℕ) (pieces : List Piece) → Stops text wrong line table at pieces
-    → tokens_from 0 table at (line_of text at) (drop at text) ≡ Err (fault_at wrong line)
+    → tokens_from 0 table at (line_of text at) (drop at text) ≡ Err (Faulty wrong line)
 stops_tokens text wrong line table at [] stops =
     let some : 0 < length (drop at text) = omega (arith, length-drop at text, stops.0) in
-    front_fails (drop at text) table at (line_of text at) wrong some stops.1 ∙ ap (λ l. let lexed : TokensOrFault = Err (fault_at wrong l) in lexed) (sym stops.2)
+    front_fails (drop at text) table at (line_of text at) wrong some stops.1 ∙ ap (λ l. let lexed : TokensOrFault = Err (Faulty wrong l) in lexed) (sym stops.2)
 stops_tokens text wrong line table at (piece ∷ pieces) stops =
     tokens_step text table at piece stops.0
     ∙ ap (onto (tokens_of_piece at (line_of text at) piece.kind piece.len)) (stops_tokens text wrong line (table_after table piece (drop at text)) (at + piece.len) pieces stops.1)
 
-pub stops_only : (text : List ℕ) (wrong : FaultKind) (line : ℕ) → StopsAt text wrong line → tokens_of text ≡ Err (fault_at wrong line)
+pub stops_only : (text : List ℕ) (wrong : FaultKind) (line : ℕ) → StopsAt text wrong line → tokens_of text ≡ Err (Faulty wrong line)
 unfolding tokens_of lines_after
 stops_only text wrong line stops = stops_tokens text wrong line false 0 stops.0 stops.1
 
@@ -85,11 +85,8 @@ reads_rise text table from at (piece ∷ pieces) tokens le reads =
 pub are_rising : (text : List ℕ) (tokens : List Token) → AreTokensOf text tokens → Rise 0 tokens
 are_rising text tokens are = reads_rise text false 0 0 are.0 tokens (omega arith) are.1
 
-pub fault_of : (text : List ℕ) (wrong : FaultKind) (line : ℕ) → StopsAt text wrong line → IsFaultOf text (fault_at wrong line)
-fault_of text kind.BadByte line stops = stops
-fault_of text kind.OpenComment line stops = stops
-fault_of text kind.OpenString line stops = stops
-fault_of text kind.BadNumber line stops = stops
+pub fault_of : (text : List ℕ) (wrong : FaultKind) (line : ℕ) → StopsAt text wrong line → IsFaultOf text (Faulty wrong line)
+fault_of text wrong line stops = stops
 
 pub rising_ok : (text : List ℕ) (result : Result (List Token) LexFault) → IfOk result (AreTokensOf text) → IfOk result (Rise 0)
 rising_ok text (Ok tokens) found = are_rising text tokens found

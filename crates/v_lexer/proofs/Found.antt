@@ -6,9 +6,9 @@ use Rattle.v_lexer.specs.declared.token.Token.{Token}
 use Rattle.v_lexer.specs.declared.token.Piece.{Piece}
 use Rattle.v_lexer.specs.declared.fault.FaultKind.{FaultKind}
 use Rattle.v_lexer.specs.declared.fault.LexFault.{LexFault}
-use Rattle.v_lexer.specs.declared.fault.LexFault.TheVariants as fault
+use Rattle.v_lexer.specs.declared.fault.LexFault.TheVariants.{Faulty, Memory}
 use Rattle.v_lexer.specs.Pieces.{PieceOrFault, piece_at, table_after}
-use Rattle.v_lexer.specs.Tokens.{TokensOrFault, lines_after, fault_at, tokens_of_piece, onto, tokens_from, tokens_of, Gives}
+use Rattle.v_lexer.specs.Tokens.{TokensOrFault, lines_after, tokens_of_piece, onto, tokens_from, tokens_of, Gives}
 use Rattle.v_lexer.specs.Reading.{line_of, Stands, Reads, Stops, AreTokensOf, StopsAt, IsFaultOf}
 use Rattle.v_lexer.proofs.Whole.{front_fails}
 use Rattle.v_lexer.proofs.Within.{piece_within}
@@ -17,7 +17,7 @@ use Rattle.v_lexer.proofs.Agreement.{at_end, tokens_step, fault_of}
 -- from an offset on the tokens are those of pieces, or the fault is the first behind pieces
 abbrev Answers : List ℕ → Bool → ℕ → TokensOrFault → Type 0
 Answers text table at (Ok tokens) = (pieces : List Piece) × Reads text table at pieces tokens
-Answers text table at (Err fault) = (wrong : FaultKind) × (line : ℕ) × (pieces : List Piece) × (fault ≡ fault_at wrong line) × Stops text wrong line table at pieces
+Answers text table at (Err fault) = (wrong : FaultKind) × (line : ℕ) × (pieces : List Piece) × (fault ≡ Faulty wrong line) × Stops text wrong line table at pieces
 
 -- one piece more
 answers_more : (text : List ℕ) (table : Bool) (at : ℕ) (piece : Piece) (lexed : TokensOrFault) → Stands text table at piece → Answers text (table_after table piece (drop at text)) (at + piece.len) lexed
@@ -68,7 +68,7 @@ pub tokens_found : (text : List ℕ) (tokens : List Token) → tokens_of text �
 tokens_found text tokens is = subst (λ (lexed : TokensOrFault). Answers text false 0 lexed) is (answers_of text)
 
 -- the fault of the function is the first of the text
-pub fault_found : (text : List ℕ) (fault : LexFault) → tokens_of text ≡ Err fault → (kind : FaultKind) × (line : ℕ) × (fault ≡ fault_at kind line) × StopsAt text kind line
+pub fault_found : (text : List ℕ) (fault : LexFault) → tokens_of text ≡ Err fault → (kind : FaultKind) × (line : ℕ) × (fault ≡ Faulty kind line) × StopsAt text kind line
 fault_found text fault is =
     let answers : Answers text false 0 (Err fault) = subst (λ (lexed : TokensOrFault). Answers text false 0 lexed) is (answers_of text) in
     (answers.0, answers.1, answers.3, (answers.2, answers.4))
@@ -86,8 +86,5 @@ first_fault text fault is =
 -- the fault that was returned is the first of the text, unless memory ran out
 pub fault_ok : (text : List ℕ) (result : Result (List Token) LexFault) → Gives (λ (ts : List Token). ts) result (tokens_of text) → IfErr result (IsFaultOf text)
 fault_ok text (Ok tokens) gives = tt
-fault_ok text (Err fault.Memory) gives = tt
-fault_ok text (Err (fault.BadByte line)) gives = first_fault text (fault.BadByte line) gives
-fault_ok text (Err (fault.OpenComment line)) gives = first_fault text (fault.OpenComment line) gives
-fault_ok text (Err (fault.OpenString line)) gives = first_fault text (fault.OpenString line) gives
-fault_ok text (Err (fault.BadNumber line)) gives = first_fault text (fault.BadNumber line) gives
+fault_ok text (Err Memory) gives = tt
+fault_ok text (Err (Faulty wrong line)) gives = first_fault text (Faulty wrong line) gives

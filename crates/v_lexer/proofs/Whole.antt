@@ -4,9 +4,9 @@ use Rattle.std.specs.Prelude.{Ok, Err}
 use Rattle.v_lexer.specs.declared.token.Token.{Token}
 use Rattle.v_lexer.specs.declared.token.Piece.{Piece}
 use Rattle.v_lexer.specs.declared.fault.FaultKind.{FaultKind}
-use Rattle.v_lexer.specs.declared.fault.FaultKind.TheVariants as kind
+use Rattle.v_lexer.specs.declared.fault.LexFault.TheVariants.{Faulty}
 use Rattle.v_lexer.specs.Pieces.{piece_at, table_after}
-use Rattle.v_lexer.specs.Tokens.{TokensOrFault, Fails, line_after, lines_after, fault_at, end_at, tokens_of_piece, onto, tokens_at, tokens_from, tokens_of}
+use Rattle.v_lexer.specs.Tokens.{TokensOrFault, Fails, line_after, lines_after, end_at, tokens_of_piece, onto, tokens_at, tokens_from, tokens_of}
 
 onto-onto : (front others : List Token) (lexed : TokensOrFault) → onto front (onto others lexed) ≡ onto (front ++ others) lexed
 onto-onto front others (Ok tokens) = let P : List Token → TokensOrFault = λ x. Ok x in ap P (sym (append_assoc front others tokens))
@@ -59,21 +59,15 @@ tokens_go_on old new rest table at line piece after next front back all found so
     (sym (onto-onto old (tokens_of_piece at line piece.kind piece.len) (tokens_from 0 (table_after table piece rest) (at + piece.len) (lines_after line (take piece.len rest)) (drop piece.len rest)))
     ∙ ap (onto old) (sym (first_token rest table at line piece found some within)) ∙ so_far)
 
-fails : (kind : FaultKind) (line : ℕ) (all : TokensOrFault) → all ≡ Err (fault_at kind line) → Fails (fault_at kind line) all
-fails kind.BadByte line all h = h
-fails kind.OpenComment line all h = h
-fails kind.OpenString line all h = h
-fails kind.BadNumber line all h = h
-
-pub front_fails : (rest : List ℕ) (table : Bool) (at line : ℕ) (wrong : FaultKind) → 0 < length rest → piece_at table rest ≡ Err wrong → tokens_from 0 table at line rest ≡ Err (fault_at wrong line)
+pub front_fails : (rest : List ℕ) (table : Bool) (at line : ℕ) (wrong : FaultKind) → 0 < length rest → piece_at table rest ≡ Err wrong → tokens_from 0 table at line rest ≡ Err (Faulty wrong line)
 unfolding tokens_from tokens_at
 front_fails [] table at line wrong some found = absurd (omega arith)
 front_fails (byte ∷ bytes) table at line wrong some found = rw found refl
 
 pub tokens_fail : (old : List Token) (rest : List ℕ) (table : Bool) (at line : ℕ) (wrong : FaultKind) (all : TokensOrFault) → 0 < length rest → piece_at table rest ≡ Err wrong
-    → onto old (tokens_from 0 table at line rest) ≡ all → Fails (fault_at wrong line) all
+    → onto old (tokens_from 0 table at line rest) ≡ all → Fails (Faulty wrong line) all
 tokens_fail old rest table at line wrong all some found so_far =
-    fails wrong line all (sym so_far ∙ ap (onto old) (front_fails rest table at line wrong some found))
+    sym so_far ∙ ap (onto old) (front_fails rest table at line wrong some found)
 
 pub tokens_end : (old new : List Token) (rest : List ℕ) (table : Bool) (at line : ℕ) (all : TokensOrFault) → length rest ≡ 0 → new ≡ old ++ end_at at line ∷ []
     → onto old (tokens_from 0 table at line rest) ≡ all → all ≡ Ok new

@@ -3,7 +3,6 @@ use Rattle.std.specs.Prelude.{ℕ, ◌+◌, ◌<◌, ◌≤◌, ◌≡◌, Bool,
 use Rattle.v_lexer.specs.declared.token.Token.{Token}
 use Rattle.v_lexer.specs.declared.token.Piece.{Piece}
 use Rattle.v_lexer.specs.declared.fault.FaultKind.{FaultKind}
-use Rattle.v_lexer.specs.declared.fault.FaultKind.TheVariants as kind
 use Rattle.v_lexer.specs.declared.fault.LexFault.{LexFault}
 use Rattle.v_lexer.specs.declared.fault.LexFault.TheVariants as fault
 use Rattle.v_lexer.specs.Pieces.{piece_at, table_after}
@@ -45,10 +44,7 @@ StopsAt text wrong line = (pieces : List Piece) × Stops text wrong line false 0
 -- the fault is the first of the text: want of memory says nothing of it
 abbrev pub IsFaultOf : List ℕ → LexFault → Type 0
 IsFaultOf text fault.Memory = Unit {0}
-IsFaultOf text (fault.BadByte line) = StopsAt text kind.BadByte line
-IsFaultOf text (fault.OpenComment line) = StopsAt text kind.OpenComment line
-IsFaultOf text (fault.OpenString line) = StopsAt text kind.OpenString line
-IsFaultOf text (fault.BadNumber line) = StopsAt text kind.BadNumber line
+IsFaultOf text (fault.Faulty wrong line) = StopsAt text wrong line
 
 -- each token begins at or after the end of the one before, and ends at or after its beginning
 abbrev pub Rise : ℕ → List Token → Type 0

@@ -3,8 +3,6 @@ use Rattle.std.specs.Prelude.{ℕ, zero, suc, ◌+◌, ◌-◌, Bool, false, ◌
 use Rattle.v_lexer.specs.declared.token.TokenKind.{TokenKind}
 use Rattle.v_lexer.specs.declared.token.TokenKind.TheVariants.{End}
 use Rattle.v_lexer.specs.declared.token.Token.{Token}
-use Rattle.v_lexer.specs.declared.fault.FaultKind.{FaultKind}
-use Rattle.v_lexer.specs.declared.fault.FaultKind.TheVariants as kind
 use Rattle.v_lexer.specs.declared.fault.LexFault.{LexFault}
 use Rattle.v_lexer.specs.declared.fault.LexFault.TheVariants as fault
 use Rattle.v_lexer.specs.Pieces.{PieceOrFault, piece_at, table_after}
@@ -22,13 +20,6 @@ unfoldable pub lines_after : ℕ → List ℕ → ℕ
 lines_after line [] = line
 lines_after line (byte ∷ bytes) = lines_after (line_after line byte) bytes
 
--- the fault at a line
-abbrev pub fault_at : FaultKind → ℕ → LexFault
-fault_at kind.BadByte line = fault.BadByte line
-fault_at kind.OpenComment line = fault.OpenComment line
-fault_at kind.OpenString line = fault.OpenString line
-fault_at kind.BadNumber line = fault.BadNumber line
-
 -- the end of the text
 abbrev pub end_at : ℕ → ℕ → Token
 end_at at line = record { kind = End; start = at; end = at; line = line }
@@ -45,7 +36,7 @@ onto tokens (Err fault) = Err fault
 
 -- the token of what stands at an offset of a line, and the tokens after it
 unfoldable pub tokens_at : ℕ → ℕ → Bool → List ℕ → PieceOrFault → (ℕ → Bool → TokensOrFault) → TokensOrFault
-tokens_at at line table bytes (Err wrong) rest = Err (fault_at wrong line)
+tokens_at at line table bytes (Err wrong) rest = Err (fault.Faulty wrong line)
 tokens_at at line table bytes (Ok piece) rest =
     onto (tokens_of_piece at line piece.kind piece.len) (rest (piece.len - 1) (table_after table piece bytes))
 
@@ -65,7 +56,7 @@ tokens_of text = tokens_from 0 false 0 1 text
 -- a fault, where the answer is known: want of memory says nothing of it
 abbrev pub Fails : LexFault → TokensOrFault → Type 0
 Fails fault.Memory answer = Unit {0}
-Fails wrong answer = answer ≡ Err wrong
+Fails (fault.Faulty wrong line) answer = answer ≡ Err (fault.Faulty wrong line)
 
 -- what was returned, seen by `view`, is the answer, unless memory ran out
 abbrev pub Gives : {X : Type 0} → (X → List Token) → Result X LexFault → TokensOrFault → Type 0
