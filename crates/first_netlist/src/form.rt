@@ -3,7 +3,7 @@ ghost use Rattle.std.specs.Prelude.{◌≡◌, ℕ, List, IfOk, IsTrue};
 ghost use Rattle.gate_net.specs.Sound.{IsSound};
 ghost use Rattle.name_table.specs.Names.{is_distinct};
 ghost use Rattle.gate_net.specs.Steps.{Gives, each};
-ghost use Rattle.first_netlist.specs.Declarations.{declared, declaring};
+ghost use Rattle.first_netlist.specs.Declarations.{module_view, with_read_items};
 ghost use Rattle.first_netlist.specs.Form.{flat_names, header_of, whole_net, terminal_of, gate_with, instance_of, ports_to, ports_in, wires_among, is_wire, wires_in, is_nand, gates_among, gates_in, item_of, module_declarations, declarations_in, netlist_of};
 
 use crate::elaborate::meaning;
@@ -235,7 +235,7 @@ fn items_of(
     mut module: Module,
     items: &[v_tree::Item],
 ) -> Result<Module, BuildFault>
-    ensures { Gives declared result (declaring (declared «module») (each item_of items.now)) }
+    ensures { Gives module_view result (with_read_items (module_view «module») (each item_of items.now)) }
 {
     for item in items {
         add_item(&mut module, item_of(alloc, words, item)?)?;
@@ -250,7 +250,7 @@ fn module_declarations(
     words: &ReservedWords,
     module: &v_tree::Module,
 ) -> Result<Module, BuildFault>
-    ensures { Gives declared result (module_declarations «module».now) }
+    ensures { Gives module_view result (module_declarations «module».now) }
 {
     let header = header_of(alloc, words, &module.ports)?;
     let declared = Module {
@@ -272,7 +272,7 @@ pub fn declarations_in(
     udps: &[UdpDecl],
     directives: &[Directive],
 ) -> Result<Module, BuildFault>
-    ensures { Gives declared result (declarations_in modules.now udps.now directives.now) }
+    ensures { Gives module_view result (declarations_in modules.now udps.now directives.now) }
 {
     match (modules, udps, directives) {
         ([module], [], []) => module_declarations(alloc, words, module),

@@ -45,16 +45,16 @@ inputs_named netlist (name ∷ names) = do
   Some (net ∷ nets)
 
 -- the inputs of one or more names, of which none stands twice
-unfoldable pub listed : Netlist → List (List ℕ) → Option (List ℕ)
-listed netlist [] = None
-listed netlist (name ∷ names) =
+unfoldable pub input_list : Netlist → List (List ℕ) → Option (List ℕ)
+input_list netlist [] = None
+input_list netlist (name ∷ names) =
     if is_distinct (name ∷ names) then inputs_named netlist (name ∷ names) else None
 
 -- the inputs whose names the fields of the second line say
 unfoldable pub inputs_of : Netlist → List (List ℕ) → Option (List ℕ)
 inputs_of netlist [] = None
 inputs_of netlist (word ∷ fields) =
-    if bytes_eq word (codes "inputs") then listed netlist (map name_in fields) else None
+    if bytes_eq word (codes "inputs") then input_list netlist (map name_in fields) else None
 
 -- a last line, whose time is at least that of the line before: least is one more than that
 unfoldable pub end_row : ℕ → List ℕ → Option Row
@@ -81,18 +81,18 @@ row_of width least fields = do
   if bytes_eq two.0 (codes "end") then end_row least two.1 else value_row width least two.0 two.1
 
 -- what a line says with those behind it: the end stands last, and behind a value line stand others
-abbrev pub joined : Row → List (List (List ℕ)) → (ℕ → Option (List ValueLine × ℕ))
+abbrev pub with_row : Row → List (List (List ℕ)) → (ℕ → Option (List ValueLine × ℕ))
     → Option (List ValueLine × ℕ)
-joined (End time) [] later = Some ([], time)
-joined (End time) (other ∷ others) later = None
-joined (Values line) others later = later (line.time + 1) >>= λ x. Some (line ∷ x.0, x.1)
+with_row (End time) [] later = Some ([], time)
+with_row (End time) (other ∷ others) later = None
+with_row (Values line) others later = later (line.time + 1) >>= λ x. Some (line ∷ x.0, x.1)
 
 -- the value lines and the end, at times from least on
 unfoldable pub rows_of : ℕ → ℕ → List (List (List ℕ)) → Option (List ValueLine × ℕ)
 rows_of width least [] = None
 rows_of width least (fields ∷ others) = do
   row ← row_of width least fields
-  joined row others (λ next. rows_of width next others)
+  with_row row others (λ next. rows_of width next others)
 
 -- the fields of the first line
 abbrev pub is_first : List (List ℕ) → Bool

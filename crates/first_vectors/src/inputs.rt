@@ -3,7 +3,7 @@ ghost use Rattle.gate_net.specs.Sound.{IsSound};
 ghost use Rattle.name_table.specs.Names.{is_distinct};
 ghost use Rattle.first_vectors.specs.Fields.{fields_of, name_in};
 ghost use Rattle.gate_net.specs.Steps.{Gives};
-ghost use Rattle.first_vectors.specs.Reading.{input_names, input_named, listed, inputs_of};
+ghost use Rattle.first_vectors.specs.Reading.{input_names, input_named, input_list, inputs_of};
 
 use crate::fields::field_at;
 use byte_lists::Bytes;
@@ -28,8 +28,8 @@ fn input_in(table: &NameTable, netlist: &Netlist, name: &[u8]) -> Option<u32>
     requires { table.now ≡ input_names netlist.now }
     ensures { result ≡ input_named netlist.now name.now }
 {
-    let place = table.find(name)?;
-    netlist.inputs.as_slice().get(place).copied()
+    let index = table.find(name)?;
+    netlist.inputs.as_slice().get(index).copied()
 }
 
 /// The name that a field says: an escaped name, which begins with `\`, has a space of its own at
@@ -49,7 +49,7 @@ fn listed_inputs(alloc: Global, netlist: &Netlist, names: &[u8]) -> Result<Vec<u
     requires sound { IsSound netlist.now }
     requires distinct { IsTrue (is_distinct netlist.now.names) }
     ensures { Gives (λ inputs. inputs.items) result
-        (listed netlist.now (map name_in (fields_of names.now))) }
+        (input_list netlist.now (map name_in (fields_of names.now))) }
 {
     let table = input_table(alloc, netlist)?;
     let mut seen = NameTable::new(alloc);
@@ -75,7 +75,7 @@ fn listed_inputs(alloc: Global, netlist: &Netlist, names: &[u8]) -> Result<Vec<u
 }
 
 /// The inputs that the second line of a text lists.
-#[tactic(auto, unfolding(crate::specs::Reading::inputs_of, crate::specs::Reading::listed))]
+#[tactic(auto, unfolding(crate::specs::Reading::inputs_of, crate::specs::Reading::input_list))]
 pub fn inputs_in(alloc: Global, netlist: &Netlist, line: &[u8]) -> Result<Vec<u32>, BuildFault>
     requires sound { IsSound netlist.now }
     requires distinct { IsTrue (is_distinct netlist.now.names) }

@@ -13,7 +13,7 @@ loop-rest-init c = record {
 pub returns-in-Err : goal.returns-in-Err
 returns-in-Err c =
     let some : 0 < length c.loop-rest.rest.now = search rules in
-    tokens_fail c.loop-rest.tokens.items c.loop-rest.rest.now c.loop-rest.table c.loop-rest.at c.loop-rest.line c.in-Err.kind (tokens_of c.args.text.now) some (sym c.in-Err.ensures.at) c.loop-rest.invariant.so_far
+    rw c.from.ensures (tokens_fail c.loop-rest.tokens.items c.loop-rest.rest.now c.loop-rest.table c.loop-rest.at c.loop-rest.line c.in-Err.kind (tokens_of c.args.text.now) some (sym c.in-Err.ensures.at) c.loop-rest.invariant.so_far)
 
 pub loop-rest-preserved : goal.loop-rest-preserved
 loop-rest-preserved c = record {
