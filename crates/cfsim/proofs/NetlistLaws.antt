@@ -6,14 +6,11 @@ use Rattle.std.proofs.lemmas.Bool.{cases_Bool, ltb-true}
 use Rattle.gate_net.specs.declared.netlist.Netlist.{Netlist}
 use Rattle.v_lexer.specs.declared.token.Token.{Token}
 use Rattle.v_lexer.specs.declared.fault.FaultKind.{FaultKind}
-use Rattle.v_lexer.specs.declared.fault.FaultKind.TheVariants as kind
-use Rattle.v_lexer.specs.declared.fault.LexFault.{LexFault}
+use Rattle.v_lexer.specs.declared.fault.LexFault.TheVariants as lex
 use Rattle.v_lexer.specs.Reading.{AreTokensOf, StopsAt}
-use Rattle.v_lexer.specs.Tokens.{Lexed, tokens_of}
-use Rattle.v_lexer.specs.Tokens as lexer
-use Rattle.v_lexer.proofs.Pieces.{reads_only, stops_only}
+use Rattle.v_lexer.specs.Tokens.{TokensOrFault, tokens_of}
+use Rattle.v_lexer.proofs.Agreement.{reads_only, stops_only}
 use Rattle.v_tree.specs.declared.modules.Description.{Description}
-use Rattle.v_tree.specs.Written.{slice_of}
 use Rattle.v_parser.specs.declared.fault.ParseFault.{ParseFault}
 use Rattle.v_parser.specs.declared.fault.ParseFault.TheVariants.{Unsupported, Syntax, Memory}
 use Rattle.v_parser.specs.Input.{Input, Outcome, is_left_out}
@@ -33,24 +30,17 @@ within text small =
       | inr e ↦ rw e refl
     ]
 
-pub lexed : (text : List ℕ) (answer : Lexed) → tokens_of text ≡ answer → netlist_of_text text ≡ netlist_of_lexer text answer
+pub lexed : (text : List ℕ) (answer : TokensOrFault) → tokens_of text ≡ answer → netlist_of_text text ≡ netlist_of_lexer text answer
 unfolding netlist_of_text
 lexed text answer is = ap (netlist_of_lexer text) is
 
 pub read : (text : List ℕ) (tokens : List Token) (outcome : Outcome (List Description)) → descriptions_of text tokens ≡ outcome → netlist_of_lexer text (Ok tokens) ≡ netlist_of_parser tokens outcome
 read text tokens outcome is = ap (netlist_of_parser tokens) is
 
-fault_is : (which : FaultKind) (line : ℕ) → refusal_of_lexer (lexer.fault_at which line) ≡ Faulty (fault_of which) line
-fault_is kind.BadByte line = refl
-fault_is kind.OpenComment line = refl
-fault_is kind.OpenString line = refl
-fault_is kind.BadNumber line = refl
-
 -- a text with a lexical fault is refused at its first one
 pub lexical_fault : (text : List ℕ) (which : FaultKind) (line : ℕ) → length text ≤ netlist_limit → StopsAt text which line → netlist_of_file (Some text) ≡ Err (Faulty (fault_of which) line)
 lexical_fault text which line small stops =
-    let refusal : Refusal → Result Netlist Refusal = λ r. Err r in
-    within text small ∙ lexed text (Err (lexer.fault_at which line)) (stops_only text which line stops) ∙ ap refusal (fault_is which line)
+    within text small ∙ lexed text (Err (lex.Faulty which line)) (stops_only text which line stops)
 
 -- a text whose tokens spell modules and primitives gives what these mean
 pub tree : (text : List ℕ) (tokens : List Token) (ds : List Description) → length text ≤ netlist_limit → AreTokensOf text tokens → AreSpelled text tokens ds → netlist_of_file (Some text) ≡ netlist_of_descriptions ds

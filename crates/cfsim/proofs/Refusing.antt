@@ -18,10 +18,7 @@ use Rattle.cfsim.proofs.NetlistLaws.{lexed, read}
 
 -- a text without tokens
 pub lexer_tells : (text : List ℕ) (fault : LexFault) → lexes.Fails fault (tokens_of text) → Tells (refusal_of_lexer fault) (netlist_of_text text)
-lexer_tells text (lex.BadByte line) is = lexed text (Err (lex.BadByte line)) is
-lexer_tells text (lex.OpenComment line) is = lexed text (Err (lex.OpenComment line)) is
-lexer_tells text (lex.OpenString line) is = lexed text (Err (lex.OpenString line)) is
-lexer_tells text (lex.BadNumber line) is = lexed text (Err (lex.BadNumber line)) is
+lexer_tells text (lex.Faulty kind line) is = lexed text (Err (lex.Faulty kind line)) is
 lexer_tells text lex.Memory is = tt
 
 -- tokens without a tree

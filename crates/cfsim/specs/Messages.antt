@@ -1,8 +1,9 @@
 -- The lines that are written to the stream of errors.
 use Rattle.std.specs.Prelude.{ℕ, List, ◌++◌, codes}
 use Rattle.std.specs.Fmt.{decimal}
+use Rattle.v_lexer.specs.declared.fault.FaultKind.TheVariants.{BadByte, OpenComment, OpenString, BadNumber}
 use Rattle.cfsim.specs.declared.line_fault.LineFault.{LineFault}
-use Rattle.cfsim.specs.declared.line_fault.LineFault.TheVariants.{BadByte, OpenComment, OpenString, BadNumber, SyntaxError, Unsupported}
+use Rattle.cfsim.specs.declared.line_fault.LineFault.TheVariants.{Lexical, SyntaxError, Unsupported}
 
 abbrev pub usage_line : List ℕ
 usage_line = codes "usage: cfsim [--top NAME] [--delays min|typ|max] [--passes N] [--jobs N] [--drop] [--observed] [--dict] NETLIST VECTORS [FAULTS] | --demo N\n"
@@ -21,10 +22,10 @@ unbuilt_line name = name ++ codes ": unbuilt\n"
 
 -- what is wrong at a line
 abbrev pub what : LineFault → List ℕ
-what BadByte = codes "bad byte"
-what OpenComment = codes "open comment"
-what OpenString = codes "open string"
-what BadNumber = codes "bad number"
+what (Lexical BadByte) = codes "bad byte"
+what (Lexical OpenComment) = codes "open comment"
+what (Lexical OpenString) = codes "open string"
+what (Lexical BadNumber) = codes "bad number"
 what SyntaxError = codes "syntax error"
 what Unsupported = codes "unsupported"
 

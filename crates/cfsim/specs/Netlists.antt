@@ -3,11 +3,10 @@ use Rattle.std.specs.Prelude.{◌≡◌, ℕ, List, slice_get, Option, Some, Non
 use Rattle.std.specs.Option.{ok_or, option_map_or}
 use Rattle.gate_net.specs.declared.netlist.Netlist.{Netlist}
 use Rattle.first_netlist.specs.Form.{netlist_of}
-use Rattle.first_netlist.specs.declared.fault.NetlistFault.{NetlistFault}
-use Rattle.first_netlist.specs.declared.fault.NetlistFault.TheVariants as form
+use Rattle.gate_net.specs.declared.fault.BuildFault.{BuildFault}
+use Rattle.gate_net.specs.declared.fault.BuildFault.TheVariants as form
 use Rattle.v_lexer.specs.declared.token.Token.{Token}
 use Rattle.v_lexer.specs.declared.fault.FaultKind.{FaultKind}
-use Rattle.v_lexer.specs.declared.fault.FaultKind.TheVariants as kind
 use Rattle.v_lexer.specs.declared.fault.LexFault.{LexFault}
 use Rattle.v_lexer.specs.declared.fault.LexFault.TheVariants as lex
 use Rattle.v_lexer.specs.Tokens.{tokens_of}
@@ -18,23 +17,21 @@ use Rattle.v_tree.specs.declared.directives.Directive.{Directive}
 use Rattle.v_tree.specs.Fit.{AreFit, IsFitDescription}
 use Rattle.v_tree.specs.Spelling.{spelling}
 use Rattle.v_tree.specs.Tree.{modules_among, udps_among, directives_among}
-use Rattle.v_tree.specs.Written.{AreWritten, slice_of}
+use Rattle.v_lexer.specs.Sound.{bytes_of}
+use Rattle.v_tree.specs.Written.{AreWritten}
 use Rattle.v_parser.specs.declared.fault.ParseFault.{ParseFault}
 use Rattle.v_parser.specs.declared.fault.ParseFault.TheVariants as parser
 use Rattle.v_parser.specs.Input.{Outcome, is_left_out}
 use Rattle.v_parser.specs.Reading.{descriptions_of}
 use Rattle.cfsim.specs.declared.line_fault.LineFault.{LineFault}
-use Rattle.cfsim.specs.declared.line_fault.LineFault.TheVariants.{BadByte, OpenComment, OpenString, BadNumber, SyntaxError, Unsupported}
+use Rattle.cfsim.specs.declared.line_fault.LineFault.TheVariants.{Lexical, SyntaxError, Unsupported}
 use Rattle.cfsim.specs.declared.refusal.Refusal.{Refusal}
 use Rattle.cfsim.specs.declared.refusal.Refusal.TheVariants.{Faulty, Unbuilt}
 use Rattle.cfsim.specs.declared.refusal.Refusal.TheVariants as refusal
 
 -- the refusal of a text without tokens
 abbrev pub refusal_of_lexer : LexFault → Refusal
-refusal_of_lexer (lex.BadByte line) = Faulty BadByte line
-refusal_of_lexer (lex.OpenComment line) = Faulty OpenComment line
-refusal_of_lexer (lex.OpenString line) = Faulty OpenString line
-refusal_of_lexer (lex.BadNumber line) = Faulty BadNumber line
+refusal_of_lexer (lex.Faulty kind line) = Faulty (Lexical kind) line
 refusal_of_lexer lex.Memory = refusal.Memory
 
 -- the line of a token
@@ -48,7 +45,7 @@ refusal_of_parser tokens (parser.Unsupported n) = Faulty Unsupported (line_of to
 refusal_of_parser tokens parser.Memory = refusal.Memory
 
 -- the refusal of a tree without a netlist
-abbrev pub refusal_of_tree : NetlistFault → Refusal
+abbrev pub refusal_of_tree : BuildFault → Refusal
 refusal_of_tree form.Memory = refusal.Memory
 refusal_of_tree form.Unbuilt = Unbuilt
 
@@ -78,10 +75,7 @@ netlist_of_text text = netlist_of_lexer text (tokens_of text)
 
 -- a lexical fault by its kind
 abbrev pub fault_of : FaultKind → LineFault
-fault_of kind.BadByte = BadByte
-fault_of kind.OpenComment = OpenComment
-fault_of kind.OpenString = OpenString
-fault_of kind.BadNumber = BadNumber
+fault_of kind = Lexical kind
 
 -- the tokens of the text are those with which the modules, primitives and directives are written
 pub record AreSpelled (text : List ℕ) (tokens : List Token) (ds : List Description) : Type 0 where
@@ -90,7 +84,7 @@ pub record AreSpelled (text : List ℕ) (tokens : List Token) (ds : List Descrip
 
 -- what is wrong with a token that is refused
 abbrev pub fault_at : List ℕ → Token → LineFault
-fault_at text token = if is_left_out token.kind (slice_of text token) then Unsupported else SyntaxError
+fault_at text token = if is_left_out token.kind (bytes_of text token) then Unsupported else SyntaxError
 
 -- the text is refused at the line of one of its tokens
 abbrev pub IsRefusedAtToken : List ℕ → List Token → Result Netlist Refusal → Type 0

@@ -9,8 +9,8 @@ ghost use Rattle.cfsim.specs.Refusals.{Tells, OnMemory, OnRead, UnlessRead};
 
 use crate::netlists::netlist_of_text;
 use crate::refusal::Refusal;
-use first_vectors::{VectorFault, read_vectors};
-use gate_net::{Netlist, Stimulus};
+use first_vectors::read_vectors;
+use gate_net::{BuildFault, Netlist, Stimulus};
 use outside_io::{Shelf, TakeFault, read_whole};
 use std::alloc::Global;
 
@@ -78,8 +78,8 @@ pub fn stimulus_of_file<F: Shelf>(
         Err(TakeFault::Memory) => Err(Refusal::Memory),
         Ok(text) => match read_vectors(alloc, text.as_slice(), netlist) {
             Ok(stimulus) => Ok(stimulus),
-            Err(VectorFault::Memory) => Err(Refusal::Memory),
-            Err(VectorFault::Unbuilt) => Err(Refusal::Unbuilt),
+            Err(BuildFault::Memory) => Err(Refusal::Memory),
+            Err(BuildFault::Unbuilt) => Err(Refusal::Unbuilt),
         },
     }
 }

@@ -11,9 +11,9 @@ ghost use Rattle.cfsim.specs.Refusals.{Tells, IsOfText};
 
 use crate::line_fault::LineFault;
 use crate::refusal::Refusal;
-use first_netlist::{NetlistFault, netlist_of};
-use gate_net::Netlist;
-use outside_io::Bytes;
+use byte_lists::Bytes;
+use first_netlist::netlist_of;
+use gate_net::{BuildFault, Netlist};
 use std::alloc::Global;
 use v_lexer::{LexFault, Token, tokens};
 use v_parser::{ParseFault, parse};
@@ -24,10 +24,7 @@ fn refusal_of_lexer(fault: LexFault) -> Refusal
     ensures { result ≡ refusal_of_lexer fault }
 {
     match fault {
-        LexFault::BadByte(line) => Refusal::Faulty(LineFault::BadByte, line),
-        LexFault::OpenComment(line) => Refusal::Faulty(LineFault::OpenComment, line),
-        LexFault::OpenString(line) => Refusal::Faulty(LineFault::OpenString, line),
-        LexFault::BadNumber(line) => Refusal::Faulty(LineFault::BadNumber, line),
+        LexFault::Faulty(kind, line) => Refusal::Faulty(LineFault::Lexical(kind), line),
         LexFault::Memory => Refusal::Memory,
     }
 }
@@ -51,12 +48,12 @@ fn refusal_of_parser(text: &[u8], tokens: &[Token], fault: ParseFault) -> Refusa
 }
 
 /// The refusal of a tree without a netlist.
-fn refusal_of_tree(fault: NetlistFault) -> Refusal
+fn refusal_of_tree(fault: BuildFault) -> Refusal
     ensures { result ≡ refusal_of_tree fault }
 {
     match fault {
-        NetlistFault::Memory => Refusal::Memory,
-        NetlistFault::Unbuilt => Refusal::Unbuilt,
+        BuildFault::Memory => Refusal::Memory,
+        BuildFault::Unbuilt => Refusal::Unbuilt,
     }
 }
 

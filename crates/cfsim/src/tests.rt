@@ -2,7 +2,8 @@ mod forms;
 mod grammar;
 
 use super::*;
-use outside_io::{Bytes, CallList, MemoryShelf, MemorySink, NamedFile, NamedFileList, StreamSink};
+use byte_lists::Bytes;
+use outside_io::{CallList, MemoryShelf, MemorySink, NamedFile, NamedFileList, StreamSink};
 use std::process::Abort;
 use std::test::Fail;
 use std::thread::Threads;

@@ -6,7 +6,7 @@ use Rattle.std.proofs.lemmas.List.{take_more, take-append-drop, take_all}
 use Rattle.std.proofs.lemmas.List.Folds.{list_any-append}
 use Rattle.std.proofs.lemmas.Slice.Eq.{bytes_eq-Decides}
 use Rattle.name_table.specs.Names.{same_name, is_among, is_distinct}
-use Rattle.first_netlist.specs.Meaning.{distinct, is_apart}
+use Rattle.first_netlist.specs.Meaning.{distinct_names, is_apart}
 
 module _ {A : Type 0} (same : A → A → Bool) where
   -- nothing stands twice
@@ -83,15 +83,15 @@ numbers_repeated ns i d lt again = is_apart-apart ns ∙ apart_repeated eqb eqb_
 
 -- a table that meets a name which it has
 pub table_meets : (names table : List (List ℕ)) (i : ℕ) (name : List ℕ) (added : Bool) → i < length names → name ≡ get_or names i name → table ≡ take i names
-    → added ≡ not (is_among name table) → added ≡ false → distinct names ≡ None
-unfolding distinct
+    → added ≡ not (is_among name table) → added ≡ false → distinct_names names ≡ None
+unfolding distinct_names
 table_meets names table i name added lt at is says old =
     let there : is_among name table ≡ true = not-false (is_among name table) (sym says ∙ old) in
     let twice : is_distinct names ≡ false = distinct_repeated names i name lt (ap (λ (n : List ℕ). is_among n (take i names)) (sym at) ∙ ap (is_among name) (sym is) ∙ there) in
     rw twice refl
 
-pub table_whole : (names table : List (List ℕ)) (i : ℕ) → length names ≤ i → table ≡ take i names → is_distinct table ≡ true → distinct names ≡ Some table
-unfolding distinct
+pub table_whole : (names table : List (List ℕ)) (i : ℕ) → length names ≤ i → table ≡ take i names → is_distinct table ≡ true → distinct_names names ≡ Some table
+unfolding distinct_names
 table_whole names table i le is apart =
     let all : table ≡ names = is ∙ take_all i names le in
     rw (← all, apart) refl

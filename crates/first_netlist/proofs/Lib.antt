@@ -1,4 +1,4 @@
 pub mod Apart
 pub mod Each
-pub mod Places
+pub mod Indices
 pub mod Sounds

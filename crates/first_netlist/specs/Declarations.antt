@@ -5,7 +5,7 @@ use Rattle.first_netlist.specs.declared.tree.Instance.{Instance}
 use Rattle.first_netlist.specs.declared.tree.Item.{Item}
 use Rattle.first_netlist.specs.declared.tree.Item.TheVariants.{Ports, Wires, Gates}
 use Rattle.first_netlist.specs.declared.tree.Module.{Module}
-use Rattle.first_netlist.specs.Steps.{◌>>=◌}
+use Rattle.gate_net.specs.Steps.{◌>>=◌}
 
 -- a module: the names of its header, and its items
 pub record Tree : Type 0 where
@@ -21,8 +21,8 @@ pub record Declarations : Type 0 where
   pub gates : List Instance
 
 -- a module of the program without where it lies in memory
-abbrev pub declared : Module → Declarations
-declared m = record { header = m.header.items; inputs = m.inputs.items; outputs = m.outputs.items; wires = m.wires.items; gates = m.gates.items }
+abbrev pub module_view : Module → Declarations
+module_view m = record { header = m.header.items; inputs = m.inputs.items; outputs = m.outputs.items; wires = m.wires.items; gates = m.gates.items }
 
 -- what an item declares besides
 abbrev pub with_item : Declarations → Item → Declarations
@@ -37,8 +37,8 @@ with_items d [] = d
 with_items d (item ∷ items) = with_items (with_item d item) items
 
 -- what was declared before the items, and what they declare, where they could be read
-abbrev pub declaring : Declarations → Option (List Item) → Option Declarations
-declaring d read = read >>= λ items. Some (with_items d items)
+abbrev pub with_read_items : Declarations → Option (List Item) → Option Declarations
+with_read_items d read = read >>= λ items. Some (with_items d items)
 
 -- what a module declares
 abbrev pub declarations_of : Tree → Declarations

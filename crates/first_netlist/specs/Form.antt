@@ -30,10 +30,10 @@ use Rattle.first_netlist.specs.declared.tree.Direction.TheVariants.{Input, Outpu
 use Rattle.first_netlist.specs.declared.tree.Instance.{Instance}
 use Rattle.first_netlist.specs.declared.tree.Item.{Item}
 use Rattle.first_netlist.specs.declared.tree.Item.TheVariants.{Ports, Wires, Gates}
-use Rattle.first_netlist.specs.Steps.{◌>>=◌}
+use Rattle.gate_net.specs.Steps.{◌>>=◌, each}
 use Rattle.first_netlist.specs.FlatNames.{flat_name}
 use Rattle.first_netlist.specs.Declarations.{Declarations, declarations_of}
-use Rattle.first_netlist.specs.Meaning.{each, meaning}
+use Rattle.first_netlist.specs.Meaning.{meaning}
 
 -- the flat name of a name, and those of several
 abbrev pub named_flat : Name → List ℕ

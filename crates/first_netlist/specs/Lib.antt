@@ -1,4 +1,3 @@
-pub mod Steps
 pub mod FlatNames
 pub mod Declarations
 pub mod Meaning

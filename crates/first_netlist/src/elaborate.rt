@@ -2,50 +2,49 @@
 ghost use Rattle.std.specs.Prelude.{◌≡◌, ◌≤◌, ◌<◌, ◌^◌, ◌++◌, length, IfOk};
 ghost use Rattle.gate_net.specs.Sound.{driven_nets};
 ghost use Rattle.name_table.specs.Names.{index_of};
-ghost use Rattle.first_netlist.specs.Steps.{Gives};
-ghost use Rattle.first_netlist.specs.Declarations.{declared};
-ghost use Rattle.first_netlist.specs.Meaning.{limit, each, net_names, names_besides, instance_names, nets_of, ports_agree, places_from, ports_of, inputs_at, gate_of, is_apart, meaning};
+ghost use Rattle.gate_net.specs.Steps.{Gives, each};
+ghost use Rattle.first_netlist.specs.Declarations.{module_view};
+ghost use Rattle.first_netlist.specs.Meaning.{limit, net_names, names_besides, instance_names, nets_of, ports_agree, indices_from, ports_of, inputs_at, gate_of, is_apart, meaning};
 
-use crate::fault::NetlistFault;
 use crate::tables::{
-    all_among, all_in_either, check_distinct, copies_of, instance_names, none_among, places_among,
+    all_among, all_in_either, check_distinct, copies_of, indices_among, instance_names, none_among,
     push_others, table_of,
 };
 use crate::tree::{Instance, Module};
 use byte_lists::{Bytes, NetList};
-use gate_net::{Gate, GateList, Netlist};
+use gate_net::{BuildFault, Gate, GateList, Netlist};
 use indexmap::IndexSet;
 use name_table::NameTable;
 use std::alloc::{AllocError, Global};
 
 const LIMIT: usize = 1_048_576;
 
-/// The place of a name in the table.
-fn net_at(nets: &NameTable, name: &Bytes) -> Result<u32, NetlistFault>
+/// The index of a name in the table.
+fn net_at(nets: &NameTable, name: &Bytes) -> Result<u32, BuildFault>
     requires { length nets.now ≤ limit }
     ensures { Gives (λ net. net) result (index_of name.now nets.now) }
 {
     match nets.find(name.as_slice()) {
-        Some(place) => Ok(place as u32),
-        None => Err(NetlistFault::Unbuilt),
+        Some(index) => Ok(index as u32),
+        None => Err(BuildFault::Unbuilt),
     }
 }
 
-/// The places of the names in the table.
-fn nets_at(alloc: Global, nets: &NameTable, names: &[Bytes]) -> Result<Vec<u32>, NetlistFault>
+/// The indices of the names in the table.
+fn nets_at(alloc: Global, nets: &NameTable, names: &[Bytes]) -> Result<Vec<u32>, BuildFault>
     requires { length nets.now ≤ limit }
-    ensures { Gives (λ places. places.items) result (each (λ name. index_of name nets.now) names.now) }
+    ensures { Gives (λ indices. indices.items) result (each (λ name. index_of name nets.now) names.now) }
 {
-    let mut places = Vec::new(alloc);
+    let mut indices = Vec::new(alloc);
     for name in names {
-        places.push(net_at(nets, name)?)?;
+        indices.push(net_at(nets, name)?)?;
     }
-    Ok(places)
+    Ok(indices)
 }
 
 /// The nets that a gate reads.
 #[tactic(auto, unfolding(crate::specs::Meaning::inputs_at))]
-fn inputs_at(alloc: Global, nets: &NameTable, names: &[Bytes]) -> Result<NetList, NetlistFault>
+fn inputs_at(alloc: Global, nets: &NameTable, names: &[Bytes]) -> Result<NetList, BuildFault>
     requires { length nets.now ≤ limit }
     ensures { Gives (λ inputs. inputs) result (inputs_at nets.now names.now) }
 {
@@ -53,13 +52,13 @@ fn inputs_at(alloc: Global, nets: &NameTable, names: &[Bytes]) -> Result<NetList
     if 0 < inputs.len() {
         Ok(NetList::from_vec(inputs))
     } else {
-        Err(NetlistFault::Unbuilt)
+        Err(BuildFault::Unbuilt)
     }
 }
 
 /// The gate that an instance is.
 #[tactic(auto, unfolding(crate::specs::Meaning::gate_of))]
-fn gate_of(alloc: Global, nets: &NameTable, instance: &Instance) -> Result<Gate, NetlistFault>
+fn gate_of(alloc: Global, nets: &NameTable, instance: &Instance) -> Result<Gate, BuildFault>
     requires { length nets.now ≤ limit }
     ensures { Gives (λ gate. gate) result (gate_of nets.now instance.now) }
 {
@@ -73,7 +72,7 @@ fn gates_of(
     alloc: Global,
     nets: &NameTable,
     instances: &[Instance],
-) -> Result<Vec<Gate>, NetlistFault>
+) -> Result<Vec<Gate>, BuildFault>
     requires { length nets.now ≤ limit }
     ensures { Gives (λ gates. gates.items) result (each (gate_of nets.now) instances.now) }
 {
@@ -118,8 +117,8 @@ fn have_one_driver(alloc: Global, inputs: &[u32], gates: &[Gate]) -> Result<bool
 
 /// The names of the nets, where no header name and no wire is declared twice.
 #[tactic(auto, unfolding(crate::specs::Meaning::net_names))]
-fn net_names(alloc: Global, module: &Module) -> Result<Vec<Bytes>, NetlistFault>
-    ensures names { Gives (λ names. names.items) result (net_names (declared «module».now)) }
+fn net_names(alloc: Global, module: &Module) -> Result<Vec<Bytes>, BuildFault>
+    ensures names { Gives (λ names. names.items) result (net_names (module_view «module».now)) }
     ensures header { IfOk result (λ names. length «module».now.header.items ≤ length names.items) }
 {
     let header = table_of(alloc, &module.header)?;
@@ -131,7 +130,7 @@ fn net_names(alloc: Global, module: &Module) -> Result<Vec<Bytes>, NetlistFault>
 
 /// Refuses names of instances that stand twice, or are nets.
 #[tactic(auto, unfolding(crate::specs::Meaning::names_besides))]
-fn check_instances(alloc: Global, nets: &NameTable, gates: &[Instance]) -> Result<(), NetlistFault>
+fn check_instances(alloc: Global, nets: &NameTable, gates: &[Instance]) -> Result<(), BuildFault>
     ensures { Gives (λ _. instance_names gates.now) result (names_besides nets.now gates.now) }
 {
     let instances = instance_names(alloc, gates)?;
@@ -139,14 +138,14 @@ fn check_instances(alloc: Global, nets: &NameTable, gates: &[Instance]) -> Resul
     if none_among(nets, &instances) {
         Ok(())
     } else {
-        Err(NetlistFault::Unbuilt)
+        Err(BuildFault::Unbuilt)
     }
 }
 
 /// The nets by name.
 #[tactic(auto, unfolding(crate::specs::Meaning::nets_of))]
-fn net_table(alloc: Global, module: &Module) -> Result<NameTable, NetlistFault>
-    ensures nets { Gives (λ nets. nets) result (nets_of (declared «module».now)) }
+fn net_table(alloc: Global, module: &Module) -> Result<NameTable, BuildFault>
+    ensures nets { Gives (λ nets. nets) result (nets_of (module_view «module».now)) }
     ensures few { IfOk result (λ nets. length nets ≤ limit) }
     ensures header { IfOk result (λ nets. length «module».now.header.items ≤ length nets) }
 {
@@ -156,7 +155,7 @@ fn net_table(alloc: Global, module: &Module) -> Result<NameTable, NetlistFault>
     if nets.len() <= LIMIT {
         Ok(nets)
     } else {
-        Err(NetlistFault::Unbuilt)
+        Err(BuildFault::Unbuilt)
     }
 }
 
@@ -173,7 +172,7 @@ fn ports_agree(module: &Module, header: &NameTable, inputs: &NameTable, outputs:
         && all_in_either(inputs, outputs, &module.header)
 }
 
-/// The places of the inputs, and those of the outputs, in the header.
+/// The indices of the inputs, and those of the outputs, in the header.
 fn port_nets(
     alloc: Global,
     header: &[Bytes],
@@ -182,33 +181,33 @@ fn port_nets(
 ) -> Result<(Vec<u32>, Vec<u32>), AllocError>
     requires { length header.now ≤ limit }
     ensures { IfOk result (λ nets.
-        (nets.0.items ≡ places_from 0 inputs.now header.now)
-        × (nets.1.items ≡ places_from 0 outputs.now header.now)) }
+        (nets.0.items ≡ indices_from 0 inputs.now header.now)
+        × (nets.1.items ≡ indices_from 0 outputs.now header.now)) }
 {
-    let input_nets = places_among(alloc, inputs, header)?;
-    let output_nets = places_among(alloc, outputs, header)?;
+    let input_nets = indices_among(alloc, inputs, header)?;
+    let output_nets = indices_among(alloc, outputs, header)?;
     Ok((input_nets, output_nets))
 }
 
 /// The nets of the inputs, and those of the outputs.
 #[tactic(auto, unfolding(crate::specs::Meaning::ports_of))]
-fn ports_of(alloc: Global, module: &Module) -> Result<(Vec<u32>, Vec<u32>), NetlistFault>
+fn ports_of(alloc: Global, module: &Module) -> Result<(Vec<u32>, Vec<u32>), BuildFault>
     requires { length «module».now.header.items ≤ limit }
-    ensures { Gives (λ ports. (ports.0.items, ports.1.items)) result (ports_of (declared «module».now)) }
+    ensures { Gives (λ ports. (ports.0.items, ports.1.items)) result (ports_of (module_view «module».now)) }
 {
     let header = table_of(alloc, &module.header)?;
     let inputs = table_of(alloc, &module.inputs)?;
     let outputs = table_of(alloc, &module.outputs)?;
     if !ports_agree(module, &header, &inputs, &outputs) {
-        return Err(NetlistFault::Unbuilt);
+        return Err(BuildFault::Unbuilt);
     }
     Ok(port_nets(alloc, &module.header, &inputs, &outputs)?)
 }
 
 /// The netlist that the declarations mean.
 #[tactic(auto, unfolding(crate::specs::Meaning::meaning))]
-pub fn meaning(alloc: Global, module: &Module) -> Result<Netlist, NetlistFault>
-    ensures { Gives (λ netlist. netlist) result (meaning (declared «module».now)) }
+pub fn meaning(alloc: Global, module: &Module) -> Result<Netlist, BuildFault>
+    ensures { Gives (λ netlist. netlist) result (meaning (module_view «module».now)) }
 {
     let nets = net_table(alloc, module)?;
     let (inputs, outputs) = ports_of(alloc, module)?;
@@ -221,6 +220,6 @@ pub fn meaning(alloc: Global, module: &Module) -> Result<Netlist, NetlistFault>
             gates: GateList::from_vec(gates),
         })
     } else {
-        Err(NetlistFault::Unbuilt)
+        Err(BuildFault::Unbuilt)
     }
 }

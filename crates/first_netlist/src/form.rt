@@ -2,17 +2,15 @@
 ghost use Rattle.std.specs.Prelude.{◌≡◌, ℕ, List, IfOk, IsTrue};
 ghost use Rattle.gate_net.specs.Sound.{IsSound};
 ghost use Rattle.name_table.specs.Names.{is_distinct};
-ghost use Rattle.first_netlist.specs.Steps.{Gives};
-ghost use Rattle.first_netlist.specs.Declarations.{declared, declaring};
-ghost use Rattle.first_netlist.specs.Meaning.{each};
+ghost use Rattle.gate_net.specs.Steps.{Gives, each};
+ghost use Rattle.first_netlist.specs.Declarations.{module_view, with_read_items};
 ghost use Rattle.first_netlist.specs.Form.{flat_names, header_of, whole_net, terminal_of, gate_with, instance_of, ports_to, ports_in, wires_among, is_wire, wires_in, is_nand, gates_among, gates_in, item_of, module_declarations, declarations_in, netlist_of};
 
 use crate::elaborate::meaning;
-use crate::fault::NetlistFault;
 use crate::names::{flat_name, flat_names, name_if_there};
 use crate::tree::{Direction, Instance, InstanceList, Item, Module, add_item};
 use byte_lists::{Bytes, NameList};
-use gate_net::Netlist;
+use gate_net::{BuildFault, Netlist};
 use std::alloc::Global;
 use v_lexer::ReservedWords;
 use v_tree::{
@@ -22,22 +20,18 @@ use v_tree::{
 
 /// The ports that a header names, where it doesn't declare them.
 #[tactic(auto, unfolding(crate::specs::Form::header_of))]
-fn header_of(
-    alloc: Global,
-    words: &ReservedWords,
-    ports: &Ports,
-) -> Result<Vec<Bytes>, NetlistFault>
+fn header_of(alloc: Global, words: &ReservedWords, ports: &Ports) -> Result<Vec<Bytes>, BuildFault>
     ensures { Gives (λ names. names.items) result (header_of ports.now) }
 {
     match ports {
         Ports::Absent | Ports::Empty => Ok(Vec::new(alloc)),
         Ports::Names(names) => Ok(flat_names(alloc, words, names.as_slice())?),
-        Ports::Ansi(_, _) => Err(NetlistFault::Unbuilt),
+        Ports::Ansi(_, _) => Err(BuildFault::Unbuilt),
     }
 }
 
 /// The flat names of the names, as a list.
-fn name_list(alloc: Global, words: &ReservedWords, names: &[Name]) -> Result<NameList, NetlistFault>
+fn name_list(alloc: Global, words: &ReservedWords, names: &[Name]) -> Result<NameList, BuildFault>
     ensures { Gives (λ flat. flat) result (Some (flat_names names.now)) }
 {
     Ok(NameList::from_vec(flat_names(alloc, words, names)?))
@@ -45,24 +39,24 @@ fn name_list(alloc: Global, words: &ReservedWords, names: &[Name]) -> Result<Nam
 
 /// The net, where no bits of it are selected.
 #[tactic(auto, unfolding(crate::specs::Form::whole_net))]
-fn whole_net(alloc: Global, words: &ReservedWords, pick: &Pick) -> Result<Bytes, NetlistFault>
+fn whole_net(alloc: Global, words: &ReservedWords, pick: &Pick) -> Result<Bytes, BuildFault>
     ensures { Gives (λ net. net) result (whole_net pick.now) }
 {
     if pick.select.is_none() {
         Ok(flat_name(alloc, words, pick.name.text.as_slice())?)
     } else {
-        Err(NetlistFault::Unbuilt)
+        Err(BuildFault::Unbuilt)
     }
 }
 
 /// The net that a terminal is.
 #[tactic(auto, unfolding(crate::specs::Form::net_of))]
-fn terminal_of(alloc: Global, words: &ReservedWords, expr: &Expr) -> Result<Bytes, NetlistFault>
+fn terminal_of(alloc: Global, words: &ReservedWords, expr: &Expr) -> Result<Bytes, BuildFault>
     ensures { Gives (λ net. net) result (terminal_of expr.now) }
 {
     match expr {
         Expr::Pick(pick) => whole_net(alloc, words, pick),
-        _ => Err(NetlistFault::Unbuilt),
+        _ => Err(BuildFault::Unbuilt),
     }
 }
 
@@ -71,7 +65,7 @@ fn terminals_of(
     alloc: Global,
     words: &ReservedWords,
     exprs: &[Expr],
-) -> Result<Vec<Bytes>, NetlistFault>
+) -> Result<Vec<Bytes>, BuildFault>
     ensures { Gives (λ nets. nets.items) result (each terminal_of exprs.now) }
 {
     let mut nets = Vec::new(alloc);
@@ -88,11 +82,11 @@ fn gate_with(
     words: &ReservedWords,
     name: Option<Bytes>,
     terminals: &[Expr],
-) -> Result<Instance, NetlistFault>
+) -> Result<Instance, BuildFault>
     ensures { Gives (λ gate. gate) result (gate_with name terminals.now) }
 {
     match terminals {
-        [] => Err(NetlistFault::Unbuilt),
+        [] => Err(BuildFault::Unbuilt),
         [first, others @ ..] => {
             let output = terminal_of(alloc, words, first)?;
             let inputs = NameList::from_vec(terminals_of(alloc, words, others)?);
@@ -106,11 +100,7 @@ fn gate_with(
 }
 
 /// The gate, with its name where it has one.
-fn instance_of(
-    alloc: Global,
-    words: &ReservedWords,
-    terms: &Terms,
-) -> Result<Instance, NetlistFault>
+fn instance_of(alloc: Global, words: &ReservedWords, terms: &Terms) -> Result<Instance, BuildFault>
     ensures { Gives (λ gate. gate) result (instance_of terms.now) }
 {
     let name = name_if_there(alloc, words, &terms.name)?;
@@ -122,7 +112,7 @@ fn instances_of(
     alloc: Global,
     words: &ReservedWords,
     gates: &[Terms],
-) -> Result<Vec<Instance>, NetlistFault>
+) -> Result<Vec<Instance>, BuildFault>
     ensures { Gives (λ instances. instances.items) result (each instance_of gates.now) }
 {
     let mut instances = Vec::new(alloc);
@@ -134,26 +124,26 @@ fn instances_of(
 
 /// Inputs or outputs of these names.
 #[tactic(auto, unfolding(crate::specs::Form::ports_to))]
-fn ports_to(direction: v_tree::Direction, names: NameList) -> Result<Item, NetlistFault>
+fn ports_to(direction: v_tree::Direction, names: NameList) -> Result<Item, BuildFault>
     ensures { Gives (λ item. item) result (ports_to direction names) }
 {
     match direction {
         v_tree::Direction::Input => Ok(Item::Ports(Direction::Input, names)),
         v_tree::Direction::Output => Ok(Item::Ports(Direction::Output, names)),
-        v_tree::Direction::Inout => Err(NetlistFault::Unbuilt),
+        v_tree::Direction::Inout => Err(BuildFault::Unbuilt),
     }
 }
 
 /// Inputs or outputs, where they have neither a type nor a range.
 #[tactic(auto, unfolding(crate::specs::Form::ports_in))]
-fn ports_in(alloc: Global, words: &ReservedWords, decl: &PortDecl) -> Result<Item, NetlistFault>
+fn ports_in(alloc: Global, words: &ReservedWords, decl: &PortDecl) -> Result<Item, BuildFault>
     ensures { Gives (λ item. item) result (ports_in decl.now) }
 {
     if decl.net_type.is_none() && decl.range.is_none() {
         let names = name_list(alloc, words, decl.names.as_slice())?;
         ports_to(decl.direction, names)
     } else {
-        Err(NetlistFault::Unbuilt)
+        Err(BuildFault::Unbuilt)
     }
 }
 
@@ -163,12 +153,12 @@ fn wires_among(
     alloc: Global,
     words: &ReservedWords,
     declared: &DeclaredNames,
-) -> Result<Item, NetlistFault>
+) -> Result<Item, BuildFault>
     ensures { Gives (λ item. item) result (wires_among «declared».now) }
 {
     match declared {
         DeclaredNames::Names(names) => Ok(Item::Wires(name_list(alloc, words, names.as_slice())?)),
-        DeclaredNames::Valued(_) => Err(NetlistFault::Unbuilt),
+        DeclaredNames::Valued(_) => Err(BuildFault::Unbuilt),
     }
 }
 
@@ -182,7 +172,7 @@ fn is_wire(net_type: NetType) -> bool
 
 /// Wires, where they have neither a drive nor a range nor a delay.
 #[tactic(auto, unfolding(crate::specs::Form::wires_in))]
-fn wires_in(alloc: Global, words: &ReservedWords, decl: &NetDecl) -> Result<Item, NetlistFault>
+fn wires_in(alloc: Global, words: &ReservedWords, decl: &NetDecl) -> Result<Item, BuildFault>
     ensures { Gives (λ item. item) result (wires_in decl.now) }
 {
     if is_wire(decl.net_type)
@@ -192,7 +182,7 @@ fn wires_in(alloc: Global, words: &ReservedWords, decl: &NetDecl) -> Result<Item
     {
         wires_among(alloc, words, &decl.declared_names)
     } else {
-        Err(NetlistFault::Unbuilt)
+        Err(BuildFault::Unbuilt)
     }
 }
 
@@ -206,7 +196,7 @@ fn is_nand(kind: &GateKind) -> bool
 
 /// The gates, as an item.
 #[tactic(auto, unfolding(crate::specs::Form::gates_among))]
-fn gates_among(alloc: Global, words: &ReservedWords, gates: &[Terms]) -> Result<Item, NetlistFault>
+fn gates_among(alloc: Global, words: &ReservedWords, gates: &[Terms]) -> Result<Item, BuildFault>
     ensures { Gives (λ item. item) result (gates_among gates.now) }
 {
     let instances = instances_of(alloc, words, gates)?;
@@ -215,26 +205,26 @@ fn gates_among(alloc: Global, words: &ReservedWords, gates: &[Terms]) -> Result<
 
 /// Nand gates.
 #[tactic(auto, unfolding(crate::specs::Form::gates_in))]
-fn gates_in(alloc: Global, words: &ReservedWords, decl: &GateItem) -> Result<Item, NetlistFault>
+fn gates_in(alloc: Global, words: &ReservedWords, decl: &GateItem) -> Result<Item, BuildFault>
     ensures { Gives (λ item. item) result (gates_in decl.now) }
 {
     if is_nand(&decl.kind) {
         gates_among(alloc, words, decl.gates.as_slice())
     } else {
-        Err(NetlistFault::Unbuilt)
+        Err(BuildFault::Unbuilt)
     }
 }
 
 /// Ports, wires or gates.
 #[tactic(auto, unfolding(crate::specs::Form::item_of))]
-fn item_of(alloc: Global, words: &ReservedWords, item: &v_tree::Item) -> Result<Item, NetlistFault>
+fn item_of(alloc: Global, words: &ReservedWords, item: &v_tree::Item) -> Result<Item, BuildFault>
     ensures { Gives (λ item. item) result (item_of item.now) }
 {
     match item {
         v_tree::Item::Ports(decl) => ports_in(alloc, words, decl),
         v_tree::Item::Nets(decl) => wires_in(alloc, words, decl),
         v_tree::Item::Gates(decl) => gates_in(alloc, words, decl),
-        _ => Err(NetlistFault::Unbuilt),
+        _ => Err(BuildFault::Unbuilt),
     }
 }
 
@@ -244,8 +234,8 @@ fn items_of(
     words: &ReservedWords,
     mut module: Module,
     items: &[v_tree::Item],
-) -> Result<Module, NetlistFault>
-    ensures { Gives declared result (declaring (declared «module») (each item_of items.now)) }
+) -> Result<Module, BuildFault>
+    ensures { Gives module_view result (with_read_items (module_view «module») (each item_of items.now)) }
 {
     for item in items {
         add_item(&mut module, item_of(alloc, words, item)?)?;
@@ -259,8 +249,8 @@ fn module_declarations(
     alloc: Global,
     words: &ReservedWords,
     module: &v_tree::Module,
-) -> Result<Module, NetlistFault>
-    ensures { Gives declared result (module_declarations «module».now) }
+) -> Result<Module, BuildFault>
+    ensures { Gives module_view result (module_declarations «module».now) }
 {
     let header = header_of(alloc, words, &module.ports)?;
     let declared = Module {
@@ -281,12 +271,12 @@ pub fn declarations_in(
     modules: &[v_tree::Module],
     udps: &[UdpDecl],
     directives: &[Directive],
-) -> Result<Module, NetlistFault>
-    ensures { Gives declared result (declarations_in modules.now udps.now directives.now) }
+) -> Result<Module, BuildFault>
+    ensures { Gives module_view result (declarations_in modules.now udps.now directives.now) }
 {
     match (modules, udps, directives) {
         ([module], [], []) => module_declarations(alloc, words, module),
-        _ => Err(NetlistFault::Unbuilt),
+        _ => Err(BuildFault::Unbuilt),
     }
 }
 
@@ -305,7 +295,7 @@ pub fn declarations_in(
 ///
 /// `Unbuilt` comes exactly where the file is outside the form, unless memory runs out first.
 #[tactic(auto, unfolding(crate::specs::Form::netlist_of))]
-pub fn netlist_of(alloc: Global, file: File) -> Result<Netlist, NetlistFault>
+pub fn netlist_of(alloc: Global, file: File) -> Result<Netlist, BuildFault>
     ensures exact { Gives (λ netlist. netlist) result (netlist_of file.modules file.udps file.directives) }
     ensures sound { IfOk result IsSound }
     ensures distinct { IfOk result (λ netlist. IsTrue (is_distinct netlist.names)) }

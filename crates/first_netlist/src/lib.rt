@@ -2,13 +2,11 @@
 #![tactic(auto)]
 
 mod elaborate;
-mod fault;
 mod form;
 mod names;
 mod tables;
 mod tree;
 
-pub use fault::NetlistFault;
 pub use form::netlist_of;
 
 #[cfg(test)]

@@ -1,13 +1,14 @@
 //! Names in tables.
 ghost use Rattle.std.specs.Prelude.{◌≡◌, ◌<◌, ◌≤◌, ◌++◌, ◌||◌, not, filter, length, IfOk, OnOk};
 ghost use Rattle.std.specs.List.{list_all};
+ghost use Rattle.std.specs.Option.{option_to_list};
 ghost use Rattle.name_table.specs.Names.{is_among};
-ghost use Rattle.first_netlist.specs.Steps.{Gives};
-ghost use Rattle.first_netlist.specs.Meaning.{distinct, all_among, none_among, named, instance_names, places_from, limit};
+ghost use Rattle.gate_net.specs.Steps.{Gives};
+ghost use Rattle.first_netlist.specs.Meaning.{distinct_names, all_among, none_among, instance_names, indices_from, limit};
 
-use crate::fault::NetlistFault;
 use crate::tree::Instance;
 use byte_lists::Bytes;
+use gate_net::BuildFault;
 use name_table::NameTable;
 use std::alloc::{AllocError, Global};
 
@@ -19,22 +20,22 @@ fn copy_of(alloc: Global, name: &Bytes) -> Result<Bytes, AllocError>
 }
 
 /// The names as a table, where none stands twice.
-pub fn table_of(alloc: Global, names: &[Bytes]) -> Result<NameTable, NetlistFault>
-    ensures table { Gives (λ table. table) result (distinct names.now) }
+pub fn table_of(alloc: Global, names: &[Bytes]) -> Result<NameTable, BuildFault>
+    ensures table { Gives (λ table. table) result (distinct_names names.now) }
     ensures same { IfOk result (λ table. table ≡ names.now) }
 {
     let mut table = NameTable::new(alloc);
     for name in names {
         if !table.add(name.as_slice())? {
-            return Err(NetlistFault::Unbuilt);
+            return Err(BuildFault::Unbuilt);
         }
     }
     Ok(table)
 }
 
 /// Refuses names of which one stands twice.
-pub fn check_distinct(alloc: Global, names: &[Bytes]) -> Result<(), NetlistFault>
-    ensures { Gives (λ _. names.now) result (distinct names.now) }
+pub fn check_distinct(alloc: Global, names: &[Bytes]) -> Result<(), BuildFault>
+    ensures { Gives (λ _. names.now) result (distinct_names names.now) }
 {
     let _ = table_of(alloc, names)?;
     Ok(())
@@ -95,7 +96,7 @@ pub fn push_others(
 
 /// Puts a copy of the name, where there is one, at the end of others.
 fn push_name(alloc: Global, name: &Option<Bytes>, others: &mut Vec<Bytes>) -> Result<(), AllocError>
-    ensures { OnOk result (others.new.items ≡ others.old.items ++ named name.now) }
+    ensures { OnOk result (others.new.items ≡ others.old.items ++ option_to_list name.now) }
 {
     if let Some(name) = name {
         others.push(copy_of(alloc, name)?)?;
@@ -114,20 +115,20 @@ pub fn instance_names(alloc: Global, gates: &[Instance]) -> Result<Vec<Bytes>, A
     Ok(names)
 }
 
-/// The places of the names that stand in the table.
-pub fn places_among(
+/// The indices of the names that stand in the table.
+pub fn indices_among(
     alloc: Global,
     table: &NameTable,
     names: &[Bytes],
 ) -> Result<Vec<u32>, AllocError>
     requires { length names.now ≤ limit }
-    ensures { IfOk result (λ places. places.items ≡ places_from 0 table.now names.now) }
+    ensures { IfOk result (λ indices. indices.items ≡ indices_from 0 table.now names.now) }
 {
-    let mut places = Vec::new(alloc);
-    for (place, name) in names.iter().enumerate() {
+    let mut indices = Vec::new(alloc);
+    for (index, name) in names.iter().enumerate() {
         if table.contains(name.as_slice()) {
-            places.push(place as u32)?;
+            indices.push(index as u32)?;
         }
     }
-    Ok(places)
+    Ok(indices)
 }

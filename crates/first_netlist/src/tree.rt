@@ -1,5 +1,5 @@
 ghost use Rattle.std.specs.Prelude.{◌≡◌, OnOk};
-ghost use Rattle.first_netlist.specs.Declarations.{declared, with_item};
+ghost use Rattle.first_netlist.specs.Declarations.{module_view, with_item};
 
 use byte_lists::{Bytes, NameList};
 use std::alloc::AllocError;
@@ -74,7 +74,7 @@ pub struct Module {
 
 /// Adds what an item declares.
 pub fn add_item(module: &mut Module, item: Item) -> Result<(), AllocError>
-    ensures { OnOk result (declared «module».new ≡ with_item (declared «module».old) item) }
+    ensures { OnOk result (module_view «module».new ≡ with_item (module_view «module».old) item) }
 {
     match item {
         Item::Ports(Direction::Input, names) => module.inputs.append(&mut names.into_vec())?,

@@ -14,10 +14,11 @@ use Rattle.gate_net.specs.declared.stimulus.ValueLine.{ValueLine}
 use Rattle.gate_net.specs.declared.stimulus.Stimulus.{Stimulus}
 use Rattle.gate_net.specs.Sound.{AreApart, IsSound, IsLawful}
 use Rattle.name_table.specs.Names.{is_among, is_distinct}
-use Rattle.first_vectors.specs.declared.fault.VectorFault.{VectorFault}
+use Rattle.gate_net.specs.declared.fault.BuildFault.{BuildFault}
 use Rattle.first_vectors.specs.declared.row.Row.TheVariants.{Values, End}
 use Rattle.first_vectors.specs.Fields.{name_in, table_of, number_after, time_of}
-use Rattle.first_vectors.specs.Reading.{values_of, name_of, input_named, inputs_named, listed, inputs_of, end_row, value_row, row_of, rows_of, stimulus_after, stimulus_in, stimulus_of, Gives}
+use Rattle.gate_net.specs.Steps.{Gives}
+use Rattle.first_vectors.specs.Reading.{values_of, name_of, input_named, inputs_named, input_list, inputs_of, end_row, value_row, row_of, rows_of, stimulus_after, stimulus_in, stimulus_of}
 use Rattle.first_vectors.specs.First.{IsValue, IsRow, IsInput, row_fields, IsFirstVectors}
 use Rattle.first_vectors.proofs.Names.{is_among-not, names_apart}
 use Rattle.first_vectors.proofs.Steps.{zip_length, zip_at, Rises, rises_from}
@@ -120,10 +121,10 @@ names_distinct netlist names nets sound distinct zip apart =
     let b = zip_at (IsInput netlist) names nets k [] 0 zip (omega arith) in
     apart j k lt (omega arith) (same_net netlist (get_or nets j 0) (get_or nets k 0) sound distinct a.input b.input (a.called ∙ e ∙ sym b.called)))
 
-listed_again : (netlist : Netlist) (fields : List (List ℕ)) (nets : List ℕ) → 0 < length fields → is_distinct (map name_in fields) ≡ true → inputs_named netlist (map name_in fields) ≡ Some nets → inputs_of netlist (codes "inputs" ∷ fields) ≡ Some nets
-unfolding inputs_of listed
-listed_again netlist [] nets some distinct e = absurd (omega arith)
-listed_again netlist (field ∷ fields) nets some distinct e = rw (distinct, e) refl
+input_list_again : (netlist : Netlist) (fields : List (List ℕ)) (nets : List ℕ) → 0 < length fields → is_distinct (map name_in fields) ≡ true → inputs_named netlist (map name_in fields) ≡ Some nets → inputs_of netlist (codes "inputs" ∷ fields) ≡ Some nets
+unfolding inputs_of input_list
+input_list_again netlist [] nets some distinct e = absurd (omega arith)
+input_list_again netlist (field ∷ fields) nets some distinct e = rw (distinct, e) refl
 
 -- ---- the whole
 
@@ -136,11 +137,11 @@ pub is_again : (netlist : Netlist) (text : List ℕ) (stimulus : Stimulus) → I
 unfolding stimulus_of stimulus_in stimulus_after table_of
 is_again netlist text stimulus sound distinct is =
     let names = names_distinct netlist (map name_in is.names) stimulus.inputs sound distinct is.inputs is.lawful.apart in
-    let inputs : inputs_of netlist (codes "inputs" ∷ is.names) ≡ Some stimulus.inputs = listed_again netlist is.names stimulus.inputs is.some names (inputs_again netlist (map name_in is.names) stimulus.inputs sound distinct is.inputs) in
+    let inputs : inputs_of netlist (codes "inputs" ∷ is.names) ≡ Some stimulus.inputs = input_list_again netlist is.names stimulus.inputs is.some names (inputs_again netlist (map name_in is.names) stimulus.inputs sound distinct is.inputs) in
     let rows : rows_of (length stimulus.inputs) 0 (map row_fields is.rows ++ (codes "end" ∷ is.last ∷ []) ∷ []) ≡ Some (stimulus.lines, stimulus.end) =
     rows_again (length stimulus.inputs) 0 is.rows is.last stimulus.lines stimulus.end is.lines is.end (recursion_from_All (λ line. length line.values ≡ length stimulus.inputs) stimulus.lines is.lawful.widths) (lawful_rises netlist stimulus is.lawful) in
     ap (stimulus_in netlist) is.spelled ∙ rw (inputs, rows) refl
 
 -- what reading answered is the one stimulus that the text says
-pub only_again : (result : Result Stimulus VectorFault) (read : Option Stimulus) (stimulus : Stimulus) → Gives (λ s. s) result read → read ≡ Some stimulus → Gives (λ s. s) result (Some stimulus)
+pub only_again : (result : Result Stimulus BuildFault) (read : Option Stimulus) (stimulus : Stimulus) → Gives (λ s. s) result read → read ≡ Some stimulus → Gives (λ s. s) result (Some stimulus)
 only_again result read stimulus gives e = subst (λ (r : Option Stimulus). Gives (λ s. s) result r) e gives

@@ -14,11 +14,12 @@ use Rattle.gate_net.specs.declared.stimulus.ValueLine.{ValueLine}
 use Rattle.gate_net.specs.declared.stimulus.Stimulus.{Stimulus}
 use Rattle.gate_net.specs.Sound.{AreApart, IsLawful, times_of}
 use Rattle.name_table.specs.Names.{is_distinct}
-use Rattle.first_vectors.specs.declared.fault.VectorFault.{VectorFault}
+use Rattle.gate_net.specs.declared.fault.BuildFault.{BuildFault}
 use Rattle.first_vectors.specs.declared.row.Row.{Row}
 use Rattle.first_vectors.specs.declared.row.Row.TheVariants.{Values, End}
-use Rattle.first_vectors.specs.Fields.{◌>>=◌, name_in, table_of, two_of, time_of}
-use Rattle.first_vectors.specs.Reading.{value_of, values_of, name_of, input_named, inputs_named, listed, inputs_of, end_row, value_row, row_of, joined, rows_of, is_first, stimulus_after, stimulus_in, stimulus_of, Gives}
+use Rattle.gate_net.specs.Steps.{◌>>=◌, Gives}
+use Rattle.first_vectors.specs.Fields.{name_in, table_of, two_of, time_of}
+use Rattle.first_vectors.specs.Reading.{value_of, values_of, name_of, input_named, inputs_named, input_list, inputs_of, end_row, value_row, row_of, with_row, rows_of, is_first, stimulus_after, stimulus_in, stimulus_of}
 use Rattle.first_vectors.specs.First.{IsValue, IsRow, IsInput, row_fields, spelling, IsFirstVectors}
 use Rattle.first_vectors.proofs.Names.{distinct_apart}
 use Rattle.first_vectors.proofs.Steps.{bind_some, guard_some, zip_length, zip_at, time_small, Rises, rises_below, rises_pairs}
@@ -105,14 +106,14 @@ pub record Says (width least : ℕ) (table : List (List (List ℕ))) (lines : Li
   pub widths : AllByRecursion (λ line. length line.values ≡ width) lines
   pub rises : Rises least lines end
 
-joined_found : (width least : ℕ) (row : Row) (fields : List (List ℕ)) (others : List (List (List ℕ))) (x : List ValueLine × ℕ) → RowSays width least fields row → ((next : ℕ) (y : List ValueLine × ℕ) → rows_of width next others ≡ Some y → Says width next others y.0 y.1)
-    → joined row others (λ next. rows_of width next others) ≡ Some x → Says width least (fields ∷ others) x.0 x.1
-joined_found width least (End time) fields [] x says later e =
+with_row_found : (width least : ℕ) (row : Row) (fields : List (List ℕ)) (others : List (List (List ℕ))) (x : List ValueLine × ℕ) → RowSays width least fields row → ((next : ℕ) (y : List ValueLine × ℕ) → rows_of width next others ≡ Some y → Says width next others y.0 y.1)
+    → with_row row others (λ next. rows_of width next others) ≡ Some x → Says width least (fields ∷ others) x.0 x.1
+with_row_found width least (End time) fields [] x says later e =
     let same : (let p : List ValueLine × ℕ = ([], time) in p) ≡ x = cc in
     let made : Says width least (fields ∷ []) [] time = record { rows = []; last = says.0; spelled = ap (λ (f : List (List ℕ)). f ∷ []) says.1; each = tt; ended = says.2; widths = tt; rises = says.3 } in
     subst (λ (y : List ValueLine × ℕ). Says width least (fields ∷ []) y.0 y.1) same made
-joined_found width least (End time) fields (other ∷ others) x says later e = absurd cc
-joined_found width least (Values line) fields others x says later e =
+with_row_found width least (End time) fields (other ∷ others) x says later e = absurd cc
+with_row_found width least (Values line) fields others x says later e =
     let b = bind_some (rows_of width (line.time + 1) others) (λ y. Some (line ∷ y.0, y.1)) x e in
     let rest = later (line.time + 1) b.0 b.1 in
     let same : (let p : List ValueLine × ℕ = (line ∷ b.0.0, b.0.1) in p) ≡ x = (let f : Some (let p : List ValueLine × ℕ = (line ∷ b.0.0, b.0.1) in p) ≡ Some x = b.2 in cc) in
@@ -131,8 +132,8 @@ rows_found : (width least : ℕ) (table : List (List (List ℕ))) (x : List Valu
 unfolding rows_of
 rows_found width least [] x e = absurd cc
 rows_found width least (fields ∷ others) x e =
-    let b = bind_some (row_of width least fields) (λ row. joined row others (λ next. rows_of width next others)) x e in
-    joined_found width least b.0 fields others x (row_found width least fields b.0 b.1) (λ next y f. rows_found width next others y f) b.2
+    let b = bind_some (row_of width least fields) (λ row. with_row row others (λ next. rows_of width next others)) x e in
+    with_row_found width least b.0 fields others x (row_found width least fields b.0 b.1) (λ next y f. rows_found width next others y f) b.2
 
 -- ---- inputs
 
@@ -181,10 +182,10 @@ pub record Lists (netlist : Netlist) (fields : List (List ℕ)) (nets : List ℕ
   pub distinct : is_distinct (map name_in names) ≡ true
   pub inputs : AllZip (IsInput netlist) (map name_in names) nets
 
-listed_found : (netlist : Netlist) (names : List (List ℕ)) (nets : List ℕ) → listed netlist names ≡ Some nets → (0 < length names) × (is_distinct names ≡ true) × (inputs_named netlist names ≡ Some nets)
-unfolding listed
-listed_found netlist [] nets e = absurd cc
-listed_found netlist (name ∷ names) nets e =
+input_list_found : (netlist : Netlist) (names : List (List ℕ)) (nets : List ℕ) → input_list netlist names ≡ Some nets → (0 < length names) × (is_distinct names ≡ true) × (inputs_named netlist names ≡ Some nets)
+unfolding input_list
+input_list_found netlist [] nets e = absurd cc
+input_list_found netlist (name ∷ names) nets e =
     let g = guard_some (is_distinct (name ∷ names)) (inputs_named netlist (name ∷ names)) nets e in
     (omega arith, g.0, g.1)
 
@@ -192,8 +193,8 @@ lists_found : (netlist : Netlist) (fields : List (List ℕ)) (nets : List ℕ) �
 unfolding inputs_of
 lists_found netlist [] nets e = absurd cc
 lists_found netlist (word ∷ names) nets e =
-    let g = guard_some (bytes_eq word (codes "inputs")) (listed netlist (map name_in names)) nets e in
-    let l = listed_found netlist (map name_in names) nets g.1 in
+    let g = guard_some (bytes_eq word (codes "inputs")) (input_list netlist (map name_in names)) nets e in
+    let l = input_list_found netlist (map name_in names) nets g.1 in
     record {
       names = names;
       spelled = ap (λ (w : List ℕ). w ∷ names) ((bytes_eq-Decides word (codes "inputs")).0 g.0);
@@ -257,10 +258,10 @@ unfolding stimulus_of
 is_found netlist text stimulus e = is_found_in netlist text (table_of text) stimulus refl e
 
 -- what reading answered is in the form
-pub answer_found : (netlist : Netlist) (text : List ℕ) (result : Result Stimulus VectorFault) → Gives (λ s. s) result (stimulus_of netlist text) → IfOk result (λ s. IsFirstVectors netlist text s)
+pub answer_found : (netlist : Netlist) (text : List ℕ) (result : Result Stimulus BuildFault) → Gives (λ s. s) result (stimulus_of netlist text) → IfOk result (λ s. IsFirstVectors netlist text s)
 answer_found netlist text (Ok stimulus) gives = is_found netlist text stimulus gives
 answer_found netlist text (Err fault) gives = tt
 
-pub answer_lawful : (netlist : Netlist) (text : List ℕ) (result : Result Stimulus VectorFault) → Gives (λ s. s) result (stimulus_of netlist text) → IfOk result (λ s. IsLawful netlist s)
+pub answer_lawful : (netlist : Netlist) (text : List ℕ) (result : Result Stimulus BuildFault) → Gives (λ s. s) result (stimulus_of netlist text) → IfOk result (λ s. IsLawful netlist s)
 answer_lawful netlist text (Ok stimulus) gives = (is_found netlist text stimulus gives).lawful
 answer_lawful netlist text (Err fault) gives = tt

@@ -5,7 +5,7 @@ use Rattle.level_range.specs.declared.range.Logic.TheVariants.{Zero, One}
 use Rattle.gate_net.specs.declared.netlist.Netlist.{Netlist}
 use Rattle.gate_net.specs.declared.stimulus.Stimulus.{Stimulus}
 use Rattle.first_vectors.specs.Fields.{fields_of, name_in, table_of, number_after, within_limit, time_of}
-use Rattle.first_vectors.specs.Reading.{values_of, input_named, inputs_named, listed, inputs_of, end_row, value_row, row_of, rows_of, stimulus_after, stimulus_in, stimulus_of}
+use Rattle.first_vectors.specs.Reading.{values_of, input_named, inputs_named, input_list, inputs_of, end_row, value_row, row_of, rows_of, stimulus_after, stimulus_in, stimulus_of}
 
 abbrev latch : Netlist
 latch = record { names = codes "q" ∷ codes "qn" ∷ codes "s" ∷ codes "r" ∷ []; inputs = 2 ∷ 3 ∷ []; outputs = 0 ∷ 1 ∷ []; gates = [] }
@@ -25,19 +25,19 @@ said = record {
 }
 
 whole : stimulus_of latch text ≡ Some said
-unfolding said number_after within_limit time_of table_of values_of input_named inputs_named listed inputs_of end_row value_row row_of rows_of stimulus_after stimulus_in stimulus_of
+unfolding said number_after within_limit time_of table_of values_of input_named inputs_named input_list inputs_of end_row value_row row_of rows_of stimulus_after stimulus_in stimulus_of
 whole = refl
 
 fed : stimulus_of latch (line text) ≡ Some said
-unfolding said number_after within_limit time_of table_of values_of input_named inputs_named listed inputs_of end_row value_row row_of rows_of stimulus_after stimulus_in stimulus_of
+unfolding said number_after within_limit time_of table_of values_of input_named inputs_named input_list inputs_of end_row value_row row_of rows_of stimulus_after stimulus_in stimulus_of
 fed = refl
 
 equal_times : stimulus_of latch (line (codes "vectors 1") ++ line (codes "inputs s") ++ line (codes "3 0") ++ line (codes "3 1") ++ codes "end 4") ≡ None
-unfolding number_after within_limit time_of table_of values_of input_named inputs_named listed inputs_of end_row value_row row_of rows_of stimulus_after stimulus_in stimulus_of
+unfolding number_after within_limit time_of table_of values_of input_named inputs_named input_list inputs_of end_row value_row row_of rows_of stimulus_after stimulus_in stimulus_of
 equal_times = refl
 
 empty_line_behind : stimulus_of latch (line (line text)) ≡ None
-unfolding number_after within_limit time_of table_of values_of input_named inputs_named listed inputs_of end_row value_row row_of rows_of stimulus_after stimulus_in stimulus_of
+unfolding number_after within_limit time_of table_of values_of input_named inputs_named input_list inputs_of end_row value_row row_of rows_of stimulus_after stimulus_in stimulus_of
 empty_line_behind = refl
 
 two_spaces : fields_of (codes "a  b ") ≡ codes "a" ∷ [] ∷ codes "b" ∷ [] ∷ []

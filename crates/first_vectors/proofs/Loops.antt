@@ -6,10 +6,11 @@ use Rattle.std.specs.List.{onto_first}
 use Rattle.level_range.specs.declared.range.Logic.{Logic}
 use Rattle.gate_net.specs.declared.stimulus.ValueLine.{ValueLine}
 use Rattle.first_vectors.specs.declared.row.Row.TheVariants.{Values, End}
-use Rattle.first_vectors.specs.declared.fault.VectorFault.{VectorFault}
-use Rattle.first_vectors.specs.declared.fault.VectorFault.TheVariants.{Memory, Unbuilt}
-use Rattle.first_vectors.specs.Fields.{◌>>=◌, lines_of, fields_of, table_of}
-use Rattle.first_vectors.specs.Reading.{value_of, values_of, row_of, rows_of, Fails}
+use Rattle.gate_net.specs.declared.fault.BuildFault.{BuildFault}
+use Rattle.gate_net.specs.declared.fault.BuildFault.TheVariants.{Memory, Unbuilt}
+use Rattle.gate_net.specs.Steps.{◌>>=◌, Fails}
+use Rattle.first_vectors.specs.Fields.{lines_of, fields_of, table_of}
+use Rattle.first_vectors.specs.Reading.{value_of, values_of, row_of, rows_of}
 
 -- ---- values
 
@@ -69,7 +70,7 @@ row_ends : (width least : ℕ) (front : List ValueLine) (rest line after : List 
 row_ends width least front rest line after total cut so_far =
     ap (λ (x : List (List (List ℕ))). with_lines front (rows_of width least x)) (sym (table_cut rest line after cut)) ∙ so_far
 
-pub rows_stop : (e : VectorFault) (width least : ℕ) (front : List ValueLine) (rest line after : List ℕ) (total : Option (List ValueLine × ℕ)) → lines_of rest ≡ line ∷ lines_of after → Fails e (row_of width least (fields_of line))
+pub rows_stop : (e : BuildFault) (width least : ℕ) (front : List ValueLine) (rest line after : List ℕ) (total : Option (List ValueLine × ℕ)) → lines_of rest ≡ line ∷ lines_of after → Fails e (row_of width least (fields_of line))
     → with_lines front (rows_of width least (table_of rest)) ≡ total → Fails e total
 unfolding rows_of
 rows_stop Memory width least front rest line after total cut bad so_far = tt

@@ -11,8 +11,9 @@ use Rattle.gate_net.specs.declared.netlist.Netlist.{Netlist}
 use Rattle.gate_net.specs.Sound.{IsSound}
 use Rattle.name_table.specs.Names.{same_name, is_among, is_distinct, index_of}
 use Rattle.name_table.proofs.Found.{is_distinct-push}
-use Rattle.first_vectors.specs.Fields.{◌>>=◌, fields_of, name_in}
-use Rattle.first_vectors.specs.Reading.{name_of, input_names, input_named, inputs_named, listed}
+use Rattle.gate_net.specs.Steps.{◌>>=◌}
+use Rattle.first_vectors.specs.Fields.{fields_of, name_in}
+use Rattle.first_vectors.specs.Reading.{name_of, input_names, input_named, inputs_named, input_list}
 
 -- ---- names apart
 
@@ -69,43 +70,43 @@ name_read netlist names nets i name read sound lt e f at is =
 
 -- ---- a name that is found
 
-below_more : (o : Option ℕ) (place n : ℕ) → ((k : ℕ) → o ≡ Some k → k < n) → option_map (λ k. suc k) o ≡ Some place → place < suc n
-below_more None place n below e = absurd cc
-below_more (Some k) place n below e =
-    let same : suc k ≡ place = cc in
+below_more : (o : Option ℕ) (index n : ℕ) → ((k : ℕ) → o ≡ Some k → k < n) → option_map (λ k. suc k) o ≡ Some index → index < suc n
+below_more None index n below e = absurd cc
+below_more (Some k) index n below e =
+    let same : suc k ≡ index = cc in
     omega (arith, below k refl)
 
-place_below : (name : List ℕ) (names : List (List ℕ)) (place : ℕ) → index_of name names ≡ Some place → place < length names
-place_below name [] place e = absurd cc
-place_below name (other ∷ names) place e =
+index_below : (name : List ℕ) (names : List (List ℕ)) (index : ℕ) → index_of name names ≡ Some index → index < length names
+index_below name [] index e = absurd cc
+index_below name (other ∷ names) index e =
     elim (cases_Bool (bytes_eq name other)) [
-      | inl same ↦ (let first : cond true (Some 0) (option_map (λ k. suc k) (index_of name names)) ≡ Some place = rw same at e in let zero' : 0 ≡ place = cc in omega arith)
-      | inr apart ↦ (let later : cond false (Some 0) (option_map (λ k. suc k) (index_of name names)) ≡ Some place = rw apart at e in below_more (index_of name names) place (length names) (place_below name names) later)
+      | inl same ↦ (let first : cond true (Some 0) (option_map (λ k. suc k) (index_of name names)) ≡ Some index = rw same at e in let zero' : 0 ≡ index = cc in omega arith)
+      | inr apart ↦ (let later : cond false (Some 0) (option_map (λ k. suc k) (index_of name names)) ≡ Some index = rw apart at e in below_more (index_of name names) index (length names) (index_below name names) later)
     ]
 
 shifted : (net : ℕ) (nets : List ℕ) (o : Option ℕ) → option_map (λ k. get_or (net ∷ nets) k 0) (option_map (λ k. suc k) o) ≡ option_map (λ k. get_or nets k 0) o
 shifted net nets None = refl
 shifted net nets (Some k) = refl
 
-find_at_place : (f : ℕ → List ℕ) (name : List ℕ) (nets : List ℕ) → find (λ net. bytes_eq name (f net)) nets ≡ option_map (λ k. get_or nets k 0) (index_of name (map f nets))
-find_at_place f name [] = refl
-find_at_place f name (net ∷ nets) =
+find_at_index : (f : ℕ → List ℕ) (name : List ℕ) (nets : List ℕ) → find (λ net. bytes_eq name (f net)) nets ≡ option_map (λ k. get_or nets k 0) (index_of name (map f nets))
+find_at_index f name [] = refl
+find_at_index f name (net ∷ nets) =
     elim (cases_Bool (bytes_eq name (f net))) [
       | inl e ↦ rw e refl
-      | inr e ↦ rw e (find_at_place f name nets ∙ sym (shifted net nets (index_of name (map f nets))))
+      | inr e ↦ rw e (find_at_index f name nets ∙ sym (shifted net nets (index_of name (map f nets))))
     ]
 
-pub found : (netlist : Netlist) (name : List ℕ) (table : List (List ℕ)) (place : ℕ) → table ≡ input_names netlist → index_of name table ≡ Some place → (place < length netlist.inputs) × (Some (get_or netlist.inputs place 0) ≡ input_named netlist name)
+pub found : (netlist : Netlist) (name : List ℕ) (table : List (List ℕ)) (index : ℕ) → table ≡ input_names netlist → index_of name table ≡ Some index → (index < length netlist.inputs) × (Some (get_or netlist.inputs index 0) ≡ input_named netlist name)
 unfolding input_named
-found netlist name table place is e =
-    let at : index_of name (input_names netlist) ≡ Some place = rw (← is) e in
-    (omega (arith, place_below name (input_names netlist) place at, length-map netlist.inputs (name_of netlist)), sym (find_at_place (name_of netlist) name netlist.inputs ∙ ap (option_map (λ k. get_or netlist.inputs k 0)) at))
+found netlist name table index is e =
+    let at : index_of name (input_names netlist) ≡ Some index = rw (← is) e in
+    (omega (arith, index_below name (input_names netlist) index at, length-map netlist.inputs (name_of netlist)), sym (find_at_index (name_of netlist) name netlist.inputs ∙ ap (option_map (λ k. get_or netlist.inputs k 0)) at))
 
 pub not_found : (netlist : Netlist) (name : List ℕ) (table : List (List ℕ)) → table ≡ input_names netlist → index_of name table ≡ None → None ≡ input_named netlist name
 unfolding input_named
 not_found netlist name table is e =
     let at : index_of name (input_names netlist) ≡ None = rw (← is) e in
-    sym (find_at_place (name_of netlist) name netlist.inputs ∙ ap (option_map (λ k. get_or netlist.inputs k 0)) at)
+    sym (find_at_index (name_of netlist) name netlist.inputs ∙ ap (option_map (λ k. get_or netlist.inputs k 0)) at)
 
 -- ---- the names of a line
 
@@ -155,18 +156,18 @@ cond_none : (b : Bool) (x : Option (List ℕ)) → x ≡ None → cond b x None 
 cond_none true x e = e
 cond_none false x e = refl
 
-listed_is : (netlist : Netlist) (seen : List (List ℕ)) (name : List ℕ) (others : List (List ℕ)) → listed netlist (seen ++ name ∷ others) ≡ cond (is_distinct (seen ++ name ∷ others)) (inputs_named netlist (seen ++ name ∷ others)) None
-unfolding listed
-listed_is netlist [] name others = refl
-listed_is netlist (first ∷ seen) name others = refl
+input_list_is : (netlist : Netlist) (seen : List (List ℕ)) (name : List ℕ) (others : List (List ℕ)) → input_list netlist (seen ++ name ∷ others) ≡ cond (is_distinct (seen ++ name ∷ others)) (inputs_named netlist (seen ++ name ∷ others)) None
+unfolding input_list
+input_list_is netlist [] name others = refl
+input_list_is netlist (first ∷ seen) name others = refl
 
-pub listed_unknown : (netlist : Netlist) (fields seen : List (List ℕ)) (name : List ℕ) (others : List (List ℕ)) → fields ≡ seen ++ name ∷ others → input_named netlist name ≡ None → listed netlist fields ≡ None
-listed_unknown netlist fields seen name others is here =
-    ap (listed netlist) is ∙ listed_is netlist seen name others ∙ cond_none (is_distinct (seen ++ name ∷ others)) (inputs_named netlist (seen ++ name ∷ others)) (inputs_named-unknown netlist seen name others here)
+pub input_list_unknown : (netlist : Netlist) (fields seen : List (List ℕ)) (name : List ℕ) (others : List (List ℕ)) → fields ≡ seen ++ name ∷ others → input_named netlist name ≡ None → input_list netlist fields ≡ None
+input_list_unknown netlist fields seen name others is here =
+    ap (input_list netlist) is ∙ input_list_is netlist seen name others ∙ cond_none (is_distinct (seen ++ name ∷ others)) (inputs_named netlist (seen ++ name ∷ others)) (inputs_named-unknown netlist seen name others here)
 
-pub listed_twice : (netlist : Netlist) (fields seen : List (List ℕ)) (name : List ℕ) (others : List (List ℕ)) → fields ≡ seen ++ name ∷ others → is_among name seen ≡ true → listed netlist fields ≡ None
-listed_twice netlist fields seen name others is twice =
-    ap (listed netlist) is ∙ listed_is netlist seen name others ∙ rw (is_distinct-twice name seen others twice) refl
+pub input_list_twice : (netlist : Netlist) (fields seen : List (List ℕ)) (name : List ℕ) (others : List (List ℕ)) → fields ≡ seen ++ name ∷ others → is_among name seen ≡ true → input_list netlist fields ≡ None
+input_list_twice netlist fields seen name others is twice =
+    ap (input_list netlist) is ∙ input_list_is netlist seen name others ∙ rw (is_distinct-twice name seen others twice) refl
 
 -- what is known of the names that were read
 pub record Seen (netlist : Netlist) (seen : List (List ℕ)) (nets : List ℕ) : Type 0 where
@@ -184,9 +185,9 @@ seen_more netlist seen nets name net h here new =
       named = inputs_named-append netlist seen name ∙ rw (h.named, here) refl;
     }
 
-pub listed_all : (netlist : Netlist) (fields seen : List (List ℕ)) (nets : List ℕ) (name : List ℕ) (net : ℕ) → Seen netlist (seen ++ name ∷ []) nets → fields ≡ seen ++ name ∷ [] → listed netlist fields ≡ Some nets
-listed_all netlist fields seen nets name net h is =
-    ap (listed netlist) is ∙ listed_is netlist seen name [] ∙ rw h.distinct h.named
+pub input_list_all : (netlist : Netlist) (fields seen : List (List ℕ)) (nets : List ℕ) (name : List ℕ) (net : ℕ) → Seen netlist (seen ++ name ∷ []) nets → fields ≡ seen ++ name ∷ [] → input_list netlist fields ≡ Some nets
+input_list_all netlist fields seen nets name net h is =
+    ap (input_list netlist) is ∙ input_list_is netlist seen name [] ∙ rw h.distinct h.named
 
 -- the names that the fields of a line say
 abbrev pub names_in : List ℕ → List (List ℕ)

@@ -4,7 +4,8 @@ use Rattle.std.specs.List.{AllZip}
 use Rattle.std.proofs.lemmas.Bool.{leb-true}
 use Rattle.gate_net.specs.declared.stimulus.ValueLine.{ValueLine}
 use Rattle.gate_net.specs.Sound.{times_of}
-use Rattle.first_vectors.specs.Fields.{◌>>=◌, number_after, within_limit, limited_after, time_of}
+use Rattle.gate_net.specs.Steps.{◌>>=◌}
+use Rattle.first_vectors.specs.Fields.{number_after, within_limit, limited_after, time_of}
 
 -- the value of a step that did not fail
 pub bind_some : {A B : Type 0} (o : Option A) (f : A → Option B) (y : B) → (o >>= f) ≡ Some y → (x : A) × (o ≡ Some x) × (f x ≡ Some y)

@@ -8,7 +8,8 @@ use Rattle.std.proofs.lemmas.List.{drop_all, take_rest}
 use Rattle.std.proofs.lemmas.List.Quantifiers.{position-Some}
 use Rattle.std.proofs.lemmas.List.Sums.{fails_before_first}
 use Rattle.std.proofs.lemmas.List.Splits.{slice_split_first, slice_split_none}
-use Rattle.first_vectors.specs.Fields.{◌>>=◌, lines_of, fields_of, two_of, digit_of, number_after, within_limit, limited_after}
+use Rattle.gate_net.specs.Steps.{◌>>=◌}
+use Rattle.first_vectors.specs.Fields.{lines_of, fields_of, two_of, digit_of, number_after, within_limit, limited_after}
 
 -- ---- where a byte stands first
 

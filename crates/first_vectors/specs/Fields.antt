@@ -1,12 +1,7 @@
 -- The lines, fields and times of a text, by cases on its bytes.
 use Rattle.std.specs.Prelude.{ℕ, ◌+◌, ◌-◌, ◌*◌, ◌^◌, ◌&&◌, List, [], ◌∷◌, ◌++◌, length, map, Option, Some, None, nat_lt, nat_le, ◌==◌, if◌then◌else◌}
 use Rattle.std.specs.List.{slice_split, onto_first}
-
--- the next step, where there is a value
-infixl 10 ◌>>=◌
-abbrev pub ◌>>=◌ : {A B : Type 0} → Option A → (A → Option B) → Option B
-None >>= f = None
-(Some x) >>= f = f x
+use Rattle.gate_net.specs.Steps.{◌>>=◌}
 
 -- the pieces between line feeds; what stands behind the last of them is a line only where it isn't
 -- empty

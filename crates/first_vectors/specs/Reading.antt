@@ -1,5 +1,5 @@
 -- What a text of the first vector form says, from its first line to its last.
-use Rattle.std.specs.Prelude.{◌≡◌, ℕ, ◌+◌, Bool, false, ◌&&◌, List, [], ◌∷◌, length, map, find, codes, Option, Some, None, Result, Ok, Err, nat_le, ◌==◌, if◌then◌else◌, slice_index_or}
+use Rattle.std.specs.Prelude.{ℕ, ◌+◌, Bool, false, ◌&&◌, List, [], ◌∷◌, length, map, find, codes, Option, Some, None, nat_le, ◌==◌, if◌then◌else◌, slice_index_or}
 use Rattle.std.specs.Str.{bytes_eq}
 use Rattle.level_range.specs.declared.range.Logic.{Logic}
 use Rattle.level_range.specs.declared.range.Logic.TheVariants.{Zero, One}
@@ -7,11 +7,10 @@ use Rattle.gate_net.specs.declared.netlist.Netlist.{Netlist}
 use Rattle.gate_net.specs.declared.stimulus.ValueLine.{ValueLine}
 use Rattle.gate_net.specs.declared.stimulus.Stimulus.{Stimulus}
 use Rattle.name_table.specs.Names.{is_distinct}
-use Rattle.first_vectors.specs.declared.fault.VectorFault.{VectorFault}
-use Rattle.first_vectors.specs.declared.fault.VectorFault.TheVariants.{Memory, Unbuilt}
 use Rattle.first_vectors.specs.declared.row.Row.{Row}
 use Rattle.first_vectors.specs.declared.row.Row.TheVariants.{Values, End}
-use Rattle.first_vectors.specs.Fields.{◌>>=◌, name_in, table_of, two_of, time_of}
+use Rattle.gate_net.specs.Steps.{◌>>=◌}
+use Rattle.first_vectors.specs.Fields.{name_in, table_of, two_of, time_of}
 
 -- the value of a byte 0 or 1
 abbrev pub value_of : ℕ → Option Logic
@@ -46,16 +45,16 @@ inputs_named netlist (name ∷ names) = do
   Some (net ∷ nets)
 
 -- the inputs of one or more names, of which none stands twice
-unfoldable pub listed : Netlist → List (List ℕ) → Option (List ℕ)
-listed netlist [] = None
-listed netlist (name ∷ names) =
+unfoldable pub input_list : Netlist → List (List ℕ) → Option (List ℕ)
+input_list netlist [] = None
+input_list netlist (name ∷ names) =
     if is_distinct (name ∷ names) then inputs_named netlist (name ∷ names) else None
 
 -- the inputs whose names the fields of the second line say
 unfoldable pub inputs_of : Netlist → List (List ℕ) → Option (List ℕ)
 inputs_of netlist [] = None
 inputs_of netlist (word ∷ fields) =
-    if bytes_eq word (codes "inputs") then listed netlist (map name_in fields) else None
+    if bytes_eq word (codes "inputs") then input_list netlist (map name_in fields) else None
 
 -- a last line, whose time is at least that of the line before: least is one more than that
 unfoldable pub end_row : ℕ → List ℕ → Option Row
@@ -82,18 +81,18 @@ row_of width least fields = do
   if bytes_eq two.0 (codes "end") then end_row least two.1 else value_row width least two.0 two.1
 
 -- what a line says with those behind it: the end stands last, and behind a value line stand others
-abbrev pub joined : Row → List (List (List ℕ)) → (ℕ → Option (List ValueLine × ℕ))
+abbrev pub with_row : Row → List (List (List ℕ)) → (ℕ → Option (List ValueLine × ℕ))
     → Option (List ValueLine × ℕ)
-joined (End time) [] later = Some ([], time)
-joined (End time) (other ∷ others) later = None
-joined (Values line) others later = later (line.time + 1) >>= λ x. Some (line ∷ x.0, x.1)
+with_row (End time) [] later = Some ([], time)
+with_row (End time) (other ∷ others) later = None
+with_row (Values line) others later = later (line.time + 1) >>= λ x. Some (line ∷ x.0, x.1)
 
 -- the value lines and the end, at times from least on
 unfoldable pub rows_of : ℕ → ℕ → List (List (List ℕ)) → Option (List ValueLine × ℕ)
 rows_of width least [] = None
 rows_of width least (fields ∷ others) = do
   row ← row_of width least fields
-  joined row others (λ next. rows_of width next others)
+  with_row row others (λ next. rows_of width next others)
 
 -- the fields of the first line
 abbrev pub is_first : List (List ℕ) → Bool
@@ -119,15 +118,6 @@ stimulus_in netlist (first ∷ second ∷ rows) =
 -- the stimulus that a text says
 unfoldable pub stimulus_of : Netlist → List ℕ → Option Stimulus
 stimulus_of netlist text = stimulus_in netlist (table_of text)
-
--- what a function returned, seen by view, is what reading gives, unless memory ran out
-abbrev pub Fails : {Y : Type 0} → VectorFault → Option Y → Type 0
-Fails Memory read = Unit {0}
-Fails Unbuilt read = read ≡ None
-
-abbrev pub Gives : {X Y : Type 0} → (X → Y) → Result X VectorFault → Option Y → Type 0
-Gives view (Ok x) read = read ≡ Some (view x)
-Gives view (Err e) read = Fails e read
 
 -- the time of a line
 abbrev pub time_at : Row → ℕ

@@ -4,7 +4,7 @@ ghost use Rattle.first_vectors.specs.Fields.{lines_of, fields_of, two_of, digit_
 /// The greatest time, in ticks: 2 ^ 40.
 pub const LAST_TIME: u64 = 1_099_511_627_776;
 
-fn first_place(bytes: &[u8], mark: u8) -> Option<usize>
+fn first_offset(bytes: &[u8], mark: u8) -> Option<usize>
     ensures { result ≡ position (λ b. b == mark) bytes.now }
 {
     bytes.iter().position(|b| *b == mark)
@@ -20,7 +20,7 @@ pub fn line_at(text: &[u8]) -> Option<(&[u8], &[u8])>
     if text.is_empty() {
         return None;
     }
-    match first_place(text, b'\n') {
+    match first_offset(text, b'\n') {
         Some(i) => Some((&text[..i], &text[i + 1..])),
         None => Some((text, &text[text.len()..])),
     }
@@ -35,7 +35,7 @@ pub fn field_at(line: &[u8]) -> (&[u8], Option<&[u8]>)
         (line.now ≡ result.0.now)
         (λ rest. length rest.now < length line.now) }
 {
-    match first_place(line, b' ') {
+    match first_offset(line, b' ') {
         Some(i) => (&line[..i], Some(&line[i + 1..])),
         None => (line, None),
     }

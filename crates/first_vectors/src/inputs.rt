@@ -2,12 +2,12 @@ ghost use Rattle.std.specs.Prelude.{◌≡◌, map, IsTrue, IfOk};
 ghost use Rattle.gate_net.specs.Sound.{IsSound};
 ghost use Rattle.name_table.specs.Names.{is_distinct};
 ghost use Rattle.first_vectors.specs.Fields.{fields_of, name_in};
-ghost use Rattle.first_vectors.specs.Reading.{input_names, input_named, listed, inputs_of, Gives};
+ghost use Rattle.gate_net.specs.Steps.{Gives};
+ghost use Rattle.first_vectors.specs.Reading.{input_names, input_named, input_list, inputs_of};
 
-use crate::fault::VectorFault;
 use crate::fields::field_at;
 use byte_lists::Bytes;
-use gate_net::Netlist;
+use gate_net::{BuildFault, Netlist};
 use name_table::NameTable;
 use std::alloc::{AllocError, Global};
 
@@ -28,8 +28,8 @@ fn input_in(table: &NameTable, netlist: &Netlist, name: &[u8]) -> Option<u32>
     requires { table.now ≡ input_names netlist.now }
     ensures { result ≡ input_named netlist.now name.now }
 {
-    let place = table.find(name)?;
-    netlist.inputs.as_slice().get(place).copied()
+    let index = table.find(name)?;
+    netlist.inputs.as_slice().get(index).copied()
 }
 
 /// The name that a field says: an escaped name, which begins with `\`, has a space of its own at
@@ -45,11 +45,11 @@ fn name_in(alloc: Global, field: &[u8]) -> Result<Bytes, AllocError>
     Ok(Bytes::from_vec(name))
 }
 
-fn listed_inputs(alloc: Global, netlist: &Netlist, names: &[u8]) -> Result<Vec<u32>, VectorFault>
+fn listed_inputs(alloc: Global, netlist: &Netlist, names: &[u8]) -> Result<Vec<u32>, BuildFault>
     requires sound { IsSound netlist.now }
     requires distinct { IsTrue (is_distinct netlist.now.names) }
     ensures { Gives (λ inputs. inputs.items) result
-        (listed netlist.now (map name_in (fields_of names.now))) }
+        (input_list netlist.now (map name_in (fields_of names.now))) }
 {
     let table = input_table(alloc, netlist)?;
     let mut seen = NameTable::new(alloc);
@@ -61,10 +61,10 @@ fn listed_inputs(alloc: Global, netlist: &Netlist, names: &[u8]) -> Result<Vec<u
         let name = owned.as_slice();
         let input = match input_in(&table, netlist, name) {
             Some(input) => input,
-            None => return Err(VectorFault::Unbuilt),
+            None => return Err(BuildFault::Unbuilt),
         };
         if !seen.add(name)? {
-            return Err(VectorFault::Unbuilt);
+            return Err(BuildFault::Unbuilt);
         }
         inputs.push(input)?;
         match others {
@@ -75,14 +75,14 @@ fn listed_inputs(alloc: Global, netlist: &Netlist, names: &[u8]) -> Result<Vec<u
 }
 
 /// The inputs that the second line of a text lists.
-#[tactic(auto, unfolding(crate::specs::Reading::inputs_of, crate::specs::Reading::listed))]
-pub fn inputs_in(alloc: Global, netlist: &Netlist, line: &[u8]) -> Result<Vec<u32>, VectorFault>
+#[tactic(auto, unfolding(crate::specs::Reading::inputs_of, crate::specs::Reading::input_list))]
+pub fn inputs_in(alloc: Global, netlist: &Netlist, line: &[u8]) -> Result<Vec<u32>, BuildFault>
     requires sound { IsSound netlist.now }
     requires distinct { IsTrue (is_distinct netlist.now.names) }
     ensures { Gives (λ inputs. inputs.items) result (inputs_of netlist.now (fields_of line.now)) }
 {
     match field_at(line) {
         (word, Some(names)) if word == b"inputs".as_slice() => listed_inputs(alloc, netlist, names),
-        _ => Err(VectorFault::Unbuilt),
+        _ => Err(BuildFault::Unbuilt),
     }
 }

@@ -2,14 +2,12 @@
 //! values that they take at rising times.
 #![tactic(auto)]
 
-mod fault;
 mod fields;
 mod inputs;
 mod reading;
 mod row;
 mod rows;
 
-pub use fault::VectorFault;
 pub use reading::read_vectors;
 
 #[cfg(test)]

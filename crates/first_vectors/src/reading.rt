@@ -4,14 +4,14 @@ ghost use Rattle.gate_net.specs.Sound.{IsSound, IsLawful};
 ghost use Rattle.name_table.specs.Names.{is_distinct};
 ghost use Rattle.first_vectors.specs.Fields.{fields_of, table_of};
 ghost use Rattle.first_vectors.specs.First.{IsFirstVectors};
-ghost use Rattle.first_vectors.specs.Reading.{is_first, stimulus_after, stimulus_of, Gives};
+ghost use Rattle.gate_net.specs.Steps.{Gives};
+ghost use Rattle.first_vectors.specs.Reading.{is_first, stimulus_after, stimulus_of};
 
-use crate::fault::VectorFault;
 use crate::fields::{line_at, two_fields};
 use crate::inputs::inputs_in;
 use crate::rows::rows_in;
 use byte_lists::NetList;
-use gate_net::{Netlist, Stimulus, ValueLineList};
+use gate_net::{BuildFault, Netlist, Stimulus, ValueLineList};
 use std::alloc::Global;
 
 fn is_first_line(line: &[u8]) -> bool
@@ -29,7 +29,7 @@ fn stimulus_behind(
     netlist: &Netlist,
     second: &[u8],
     rows: &[u8],
-) -> Result<Stimulus, VectorFault>
+) -> Result<Stimulus, BuildFault>
     requires sound { IsSound netlist.now }
     requires distinct { IsTrue (is_distinct netlist.now.names) }
     ensures { Gives (λ stimulus. stimulus) result
@@ -45,7 +45,7 @@ fn stimulus_behind(
 }
 
 #[tactic(auto, unfolding(crate::specs::Reading::stimulus_of, crate::specs::Reading::stimulus_in, crate::specs::Fields::table_of))]
-fn stimulus_in(alloc: Global, text: &[u8], netlist: &Netlist) -> Result<Stimulus, VectorFault>
+fn stimulus_in(alloc: Global, text: &[u8], netlist: &Netlist) -> Result<Stimulus, BuildFault>
     requires sound { IsSound netlist.now }
     requires distinct { IsTrue (is_distinct netlist.now.names) }
     ensures { Gives (λ stimulus. stimulus) result (stimulus_of netlist.now text.now) }
@@ -56,7 +56,7 @@ fn stimulus_in(alloc: Global, text: &[u8], netlist: &Netlist) -> Result<Stimulus
     {
         return stimulus_behind(alloc, netlist, second, rows);
     }
-    Err(VectorFault::Unbuilt)
+    Err(BuildFault::Unbuilt)
 }
 
 /// Reads a text of the first vector form: its lines are `vectors 1`, `inputs` with the names of one
@@ -66,7 +66,7 @@ fn stimulus_in(alloc: Global, text: &[u8], netlist: &Netlist) -> Result<Stimulus
 /// the last line may lack its line feed. A field of the `inputs` line that begins with `\` is an
 /// escaped name (IEEE 1364-2005, 3.7.1). It names the input whose name is the field and one space,
 /// so `\abc` isn't `abc`; that space separates it from the next field too, or the line ends there.
-pub fn read_vectors(alloc: Global, text: &[u8], netlist: &Netlist) -> Result<Stimulus, VectorFault>
+pub fn read_vectors(alloc: Global, text: &[u8], netlist: &Netlist) -> Result<Stimulus, BuildFault>
     requires sound { IsSound netlist.now }
     requires distinct { IsTrue (is_distinct netlist.now.names) }
 

@@ -4,7 +4,7 @@ ghost use Rattle.name_table.specs.Names.{is_distinct};
 
 use super::*;
 use byte_lists::{Bytes, NameList, NetList};
-use gate_net::{GateList, Netlist, Stimulus};
+use gate_net::{BuildFault, GateList, Netlist, Stimulus};
 use level_range::Logic;
 use std::alloc::{AllocError, Global};
 use std::fmt::Write;
@@ -56,8 +56,8 @@ fn answer(alloc: Global, text: &str) -> Result<String, AllocError> {
     let netlist = latch(alloc)?;
     match read_vectors(alloc, text.as_bytes(), &netlist) {
         Ok(stimulus) => shown(alloc, &stimulus),
-        Err(VectorFault::Unbuilt) => String::from_str(alloc, "unbuilt"),
-        Err(VectorFault::Memory) => String::from_str(alloc, "memory"),
+        Err(BuildFault::Unbuilt) => String::from_str(alloc, "unbuilt"),
+        Err(BuildFault::Memory) => String::from_str(alloc, "memory"),
     }
 }
 

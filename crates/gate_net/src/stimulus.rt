@@ -1,45 +1,9 @@
-ghost use Rattle.std.specs.Prelude.{◌≡◌};
-
 use byte_lists::NetList;
 use level_range::Logic;
-use std::marker::Model;
+use list_of::ListOf;
 
 /// Logic values in their order. Contracts see the list of them.
-#[derive(Debug, Drop)]
-pub struct LogicList {
-    values: Vec<Logic>,
-}
-
-impl Model for LogicList {
-    ghost use Rattle.std.specs.Prelude.{List};
-    ghost use Rattle.level_range.specs.declared.range.Logic.{Logic};
-
-    ghost Value = { List Logic };
-
-    ghost view = { λ v. v.values.items };
-}
-
-impl LogicList {
-    /// The values of a vector, which is kept.
-    pub fn from_vec(values: Vec<Logic>) -> LogicList
-        ensures { result ≡ values.items }
-    {
-        LogicList { values }
-    }
-
-    /// The vector that holds the values.
-    pub fn into_vec(self) -> Vec<Logic>
-        ensures { result.items ≡ self }
-    {
-        self.values
-    }
-
-    pub fn as_slice(&self) -> &[Logic]
-        ensures { result.now ≡ self.now }
-    {
-        self.values.as_slice()
-    }
-}
+pub type LogicList = ListOf<Logic>;
 
 /// The values that the listed inputs take at a time, in ticks, one for each listed input.
 #[derive(Debug, Drop)]
@@ -49,41 +13,7 @@ pub struct ValueLine {
 }
 
 /// Value lines in their order. Contracts see the list of them.
-#[derive(Debug, Drop)]
-pub struct ValueLineList {
-    lines: Vec<ValueLine>,
-}
-
-impl Model for ValueLineList {
-    ghost use Rattle.std.specs.Prelude.{List};
-    ghost use Rattle.gate_net.specs.declared.stimulus.ValueLine.{ValueLine};
-
-    ghost Value = { List ValueLine };
-
-    ghost view = { λ v. v.lines.items };
-}
-
-impl ValueLineList {
-    /// The lines of a vector, which is kept.
-    pub fn from_vec(lines: Vec<ValueLine>) -> ValueLineList
-        ensures { result ≡ lines.items }
-    {
-        ValueLineList { lines }
-    }
-
-    /// The vector that holds the lines.
-    pub fn into_vec(self) -> Vec<ValueLine>
-        ensures { result.items ≡ self }
-    {
-        self.lines
-    }
-
-    pub fn as_slice(&self) -> &[ValueLine]
-        ensures { result.now ≡ self.now }
-    {
-        self.lines.as_slice()
-    }
-}
+pub type ValueLineList = ListOf<ValueLine>;
 
 /// The timed values of a netlist's inputs, and the end of the run.
 #[derive(Debug, Drop)]

@@ -33,9 +33,9 @@ abbrev pub Gives : Option (List ℕ) → Option (List ℕ) → List ℕ → Type
 Gives old new bytes = old ≡ told_after bytes new
 
 -- the bytes of the file of this name, where the files are told and it is among them
-abbrev pub bytes_of : Option (List ℕ → Option (List ℕ)) → List ℕ → Option (List ℕ)
-bytes_of None name = None
-bytes_of (Some files) name = files name
+abbrev pub content_of : Option (List ℕ → Option (List ℕ)) → List ℕ → Option (List ℕ)
+content_of None name = None
+content_of (Some files) name = files name
 
 -- the name that a shelf keeps as the blamed one, empty where it keeps none
 abbrev pub blamed_text : Option (String Global) → List ℕ

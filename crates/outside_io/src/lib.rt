@@ -12,7 +12,7 @@ mod tests;
 mod whole;
 
 pub use edge::{FileShelf, OpenGate, StreamSink};
-pub use lists::{Bytes, CallList, NamedFile, NamedFileList};
+pub use lists::{CallList, NamedFile, NamedFileList};
 pub use memory_shelf::MemoryShelf;
 pub use memory_sink::MemorySink;
 pub use outside::{Failed, Gate, Shelf, Sink};

@@ -2,44 +2,8 @@ ghost use Rattle.std.specs.Prelude.{◌≡◌, ◌↔◌, Any, IsTrue};
 ghost use Rattle.std.specs.List.Sorted.{IsStrictlyIncreasing};
 ghost use Rattle.outside_io.specs.Files.{HaveDistinctNames};
 
+use byte_lists::Bytes;
 use std::marker::Model;
-
-/// Bytes, such as those of a name or a file. Contracts see the list of them.
-#[derive(Debug, Drop)]
-pub struct Bytes {
-    bytes: Vec<u8>,
-}
-
-impl Model for Bytes {
-    ghost use Rattle.std.specs.Prelude.{List, ℕ};
-
-    ghost Value = { List ℕ };
-
-    ghost view = { λ b. b.bytes.items };
-}
-
-impl Bytes {
-    /// The bytes of a vector, which is kept.
-    pub fn from_vec(bytes: Vec<u8>) -> Bytes
-        ensures { result ≡ bytes.items }
-    {
-        Bytes { bytes }
-    }
-
-    /// The vector that holds the bytes.
-    pub fn into_vec(self) -> Vec<u8>
-        ensures { result.items ≡ self }
-    {
-        self.bytes
-    }
-
-    /// The bytes in their order.
-    pub fn as_slice(&self) -> &[u8]
-        ensures { result.now ≡ self.now }
-    {
-        self.bytes.as_slice()
-    }
-}
 
 /// A file in memory: its name and its bytes.
 #[derive(Debug, Drop)]

@@ -1,5 +1,5 @@
 ghost use Rattle.std.specs.Prelude.{◌≡◌, ℕ, ◌+◌, ◌-◌, ◌^◌, ◌<◌, ◌≤◌, min, List, [], length, take, Option, None, Some, is_some, Ok, IsErr, IfOk, OnOk, OnErr, IfSome, string_bytes};
-ghost use Rattle.outside_io.specs.Outside.{Rose, Gains, Gives, bytes_of};
+ghost use Rattle.outside_io.specs.Outside.{Rose, Gains, Gives, content_of};
 
 use thiserror::Error;
 
@@ -46,7 +46,7 @@ pub trait Shelf {
             told (string_bytes name) ≡ None → IsErr result) }
         ensures opens { OnOk result (named self.new ≡ Some (string_bytes name)) }
         ensures whole { OnOk result (rest self.new
-            ≡ bytes_of (files self.old) (string_bytes name)) }
+            ≡ content_of (files self.old) (string_bytes name)) }
         ensures closed { OnErr result (named self.new ≡ None) }
         ensures empty { OnErr result (IfSome (rest self.new) (λ left. left ≡ [])) }
         ensures none_given { given self.new ≡ 0 };

@@ -1,4 +1,5 @@
 use super::*;
+use byte_lists::Bytes;
 use std::alloc::{AllocError, Global};
 use std::process::Abort;
 use std::test::Fail;

@@ -1,9 +1,9 @@
 ghost use Rattle.std.specs.Prelude.{◌≡◌, ◌+◌, ◌^◌, ◌<◌, ◌≤◌, ◌⊎◌, ◌++◌, ℕ, List, [], length, Some, None, Ok, IfOk, OnOk, OnErr, IfSome, IsSomeAnd, IsOk, vec_len};
-ghost use Rattle.outside_io.specs.Outside.{Rose, Gains, GainsPrefix, Gives, bytes_of};
+ghost use Rattle.outside_io.specs.Outside.{Rose, Gains, GainsPrefix, Gives, content_of};
 ghost use Rattle.outside_io.specs.Answers.{OnRead, OnTooLong, OnMemory, UnlessRead};
 
-use crate::lists::Bytes;
 use crate::outside::{Shelf, Sink};
+use byte_lists::Bytes;
 use std::alloc::Global;
 use thiserror::Error;
 

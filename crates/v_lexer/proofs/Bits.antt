@@ -5,7 +5,7 @@ use Rattle.v_lexer.specs.declared.literals.Base.{Base}
 use Rattle.v_lexer.specs.declared.literals.Bit.{Bit}
 use Rattle.v_lexer.specs.declared.literals.Bit.TheVariants.{Zero, One, X, Z}
 use Rattle.v_lexer.specs.Bytes.{first}
-use Rattle.v_lexer.specs.Literals.{needed, digit_bits, bits_of}
+use Rattle.v_lexer.specs.Literals.{needed_len, digit_bits, bits_of}
 use Rattle.v_lexer.specs.Needed.{needed_with, needed_by}
 
 suc_other : (n : ℕ) → eqb (suc n) 0 ≡ false
@@ -20,8 +20,8 @@ needed_some n (One ∷ bits) = let e : suc n + 1 ≡ suc (suc n) = omega arith i
 needed_some n (X ∷ bits) = let e : suc n + 1 ≡ suc (suc n) = omega arith in rw e (needed_some (suc n) bits ∙ omega arith)
 needed_some n (Z ∷ bits) = let e : suc n + 1 ≡ suc (suc n) = omega arith in rw e (needed_some (suc n) bits ∙ omega arith)
 
-pub needed_all : (bits : List Bit) → needed_by 0 bits ≡ needed bits
-unfolding needed_by needed
+pub needed_all : (bits : List Bit) → needed_by 0 bits ≡ needed_len bits
+unfolding needed_by needed_len
 needed_all [] = refl
 needed_all (Zero ∷ bits) = needed_all bits
 needed_all (One ∷ bits) = needed_some 0 bits ∙ omega arith

@@ -13,7 +13,7 @@ use Rattle.v_lexer.specs.Gaps.{comment_len, attribute_len}
 use Rattle.v_lexer.specs.Numbers.{decimal_value, decimal_len, exponent_len}
 use Rattle.v_lexer.specs.Literals.{Form, form_at, holds}
 use Rattle.v_lexer.specs.Words.{is_reserved}
-use Rattle.v_lexer.specs.Places.{Found, token, gap, ended, mark_at, slash_at, open_at, quote_at, escaped_at, directive_at, name_at, literal_with, literal_at, exponent_at, quote_offset, whole_at, number_at, plain_at, is_symbol, is_table_end, row_at, place_at}
+use Rattle.v_lexer.specs.Pieces.{PieceOrFault, token, gap, piece_to_end, mark_at, slash_at, open_at, quote_at, escaped_at, directive_at, name_at, literal_with, literal_at, exponent_at, quote_offset, whole_at, number_at, plain_at, is_symbol, is_table_end, row_at, piece_at}
 use Rattle.v_lexer.specs.Forms.{begins_other}
 
 -- a `'` comes behind a number, with blanks between or none
@@ -29,7 +29,7 @@ abbrev pub IsNumberLen : List ℕ → ℕ → Type 0
 IsNumberLen bytes len = (IsPlain bytes × (len ≡ number_run bytes)) ⊎ ((0 < decimal_len bytes) × (len ≡ decimal_len bytes))
 
 -- what begins with a digit
-pub data NumberCase (bytes : List ℕ) : Found → Type 0 where
+pub data NumberCase (bytes : List ℕ) : PieceOrFault → Type 0 where
   refused : (wrong : FaultKind) → NumberCase bytes (Err wrong)
   number : IsPlain bytes → decimal_value (take (number_run bytes) bytes) < 2147483648 → exponent_len (drop (number_run bytes) bytes) ≡ 0 → NumberCase bytes (token kind.Number (number_run bytes))
   decimal : 0 < decimal_len bytes → exponent_len (drop (decimal_len bytes) bytes) ≡ 0 → NumberCase bytes (token kind.Decimal (decimal_len bytes))
@@ -39,7 +39,7 @@ pub data NumberCase (bytes : List ℕ) : Found → Type 0 where
       → NumberCase bytes (token kind.Based (quote_offset (number_run bytes) bytes + form.len))
 
 -- what stands at the front of a text
-pub data Case (bytes : List ℕ) : Found → Type 0 where
+pub data Case (bytes : List ℕ) : PieceOrFault → Type 0 where
   wrong : (found : FaultKind) → Case bytes (Err found)
   blanks : is_blank (first bytes) ≡ true → Case bytes (gap (blank_run bytes))
   line_comment : first bytes ≡ 47 → Case bytes (gap (line_run bytes))
@@ -50,19 +50,19 @@ pub data Case (bytes : List ℕ) : Found → Type 0 where
   escaped : first bytes ≡ 92 → 0 < visible_run (drop 1 bytes) → Case bytes (token kind.Name (1 + visible_run (drop 1 bytes)))
   directive : first bytes ≡ 96 → is_letter (first (drop 1 bytes)) ≡ true → Case bytes (token kind.Directive (1 + name_run (drop 1 bytes)))
   text : (len : ℕ) → first bytes ≡ 34 → text_len bytes ≡ Some len → Case bytes (token kind.Text len)
-  digits : (found : Found) → is_ascii_digit (first bytes) ≡ true → NumberCase bytes found → Case bytes found
+  digits : (found : PieceOrFault) → is_ascii_digit (first bytes) ≡ true → NumberCase bytes found → Case bytes found
   unsized : (form : Form) → first bytes ≡ 39 → form_at bytes ≡ Some form → holds None form ≡ true → Case bytes (token kind.Based (0 + form.len))
   mark : is_visible (first bytes) ≡ true → not (begins_other (first bytes)) ≡ true → Case bytes (token kind.Mark 1)
   symbol : is_symbol (first bytes) ≡ true → Case bytes (token kind.Symbol 1)
   table_end : is_table_end bytes ≡ true → Case bytes (token kind.Word 8)
 
-pub either : (P : Found → Type 0) (b : Bool) (x y : Found) → (b ≡ true → P x) → (b ≡ false → P y) → P (if b then x else y)
+pub either : (P : PieceOrFault → Type 0) (b : Bool) (x y : PieceOrFault) → (b ≡ true → P x) → (b ≡ false → P y) → P (if b then x else y)
 either P true x y f g = f refl
 either P false x y f g = g refl
 
-ended_case : (bytes : List ℕ) (shape : Option TokenKind) (other : FaultKind) (len : Option ℕ) → ((n : ℕ) → len ≡ Some n → Case bytes (Ok (record { kind = shape; len = n }))) → Case bytes (ended shape other len)
-ended_case bytes shape other None is = wrong other
-ended_case bytes shape other (Some n) is = is n refl
+to_end_case : (bytes : List ℕ) (shape : Option TokenKind) (other : FaultKind) (len : Option ℕ) → ((n : ℕ) → len ≡ Some n → Case bytes (Ok (record { kind = shape; len = n }))) → Case bytes (piece_to_end shape other len)
+to_end_case bytes shape other None is = wrong other
+to_end_case bytes shape other (Some n) is = is n refl
 
 mark_case : (bytes : List ℕ) → not (begins_other (first bytes)) ≡ true → Case bytes (mark_at bytes)
 unfolding mark_at
@@ -72,19 +72,19 @@ mark_case bytes other = either (Case bytes) (is_visible (first bytes)) (token ki
 mark_is : (byte : ℕ) (bytes : List ℕ) → first bytes ≡ byte → is_visible byte ≡ true → not (begins_other byte) ≡ true → Case bytes (token kind.Mark 1)
 mark_is byte bytes is visible other = mark (ap is_visible is ∙ visible) (ap (λ b. not (begins_other b)) is ∙ other)
 
-slash_case : (other : Found) (bytes : List ℕ) → first bytes ≡ 47 → Case bytes other → Case bytes (slash_at other bytes)
+slash_case : (other : PieceOrFault) (bytes : List ℕ) → first bytes ≡ 47 → Case bytes other → Case bytes (slash_at other bytes)
 unfolding slash_at
 slash_case other bytes is case =
-    let block : Found = ended None fault.OpenComment (comment_len bytes) in
+    let block : PieceOrFault = piece_to_end None fault.OpenComment (comment_len bytes) in
     either (Case bytes) (begins 47 47 bytes) (gap (line_run bytes)) (if begins 47 42 bytes then block else other) (λ _. line_comment is) (λ _.
-    either (Case bytes) (begins 47 42 bytes) block other (λ b. ended_case bytes None fault.OpenComment (comment_len bytes) (λ n e. comment n b e)) (λ _. case))
+    either (Case bytes) (begins 47 42 bytes) block other (λ b. to_end_case bytes None fault.OpenComment (comment_len bytes) (λ n e. comment n b e)) (λ _. case))
 
 open_case : (bytes : List ℕ) → first bytes ≡ 40 → Case bytes (open_at bytes)
 unfolding open_at
 open_case bytes is =
     let other : Bool = not (eqb (first (drop 2 bytes)) 41) in
-    either (Case bytes) (begins 40 42 bytes && other) (ended None fault.OpenComment (attribute_len bytes)) (token kind.Mark 1)
-    (λ b. ended_case bytes None fault.OpenComment (attribute_len bytes) (λ n e. attribute n (and_parts (begins 40 42 bytes) other b).0 e)) (λ _. mark_is 40 bytes is refl refl)
+    either (Case bytes) (begins 40 42 bytes && other) (piece_to_end None fault.OpenComment (attribute_len bytes)) (token kind.Mark 1)
+    (λ b. to_end_case bytes None fault.OpenComment (attribute_len bytes) (λ n e. attribute n (and_parts (begins 40 42 bytes) other b).0 e)) (λ _. mark_is 40 bytes is refl refl)
 
 name_case : (bytes : List ℕ) → is_letter (first bytes) ≡ true → Case bytes (name_at bytes)
 unfolding name_at
@@ -107,10 +107,10 @@ directive_case bytes is =
 
 quote_case : (bytes : List ℕ) → first bytes ≡ 34 → Case bytes (quote_at bytes)
 unfolding quote_at
-quote_case bytes is = ended_case bytes (Some kind.Text) fault.OpenString (text_len bytes) (λ n e. text n is e)
+quote_case bytes is = to_end_case bytes (Some kind.Text) fault.OpenString (text_len bytes) (λ n e. text n is e)
 
 -- a based number, with whatever holds of it where it has no fault
-pub literal_case : (P : Found → Type 0) (size : Option ℕ) (offset : ℕ) (form : Option Form) → P (Err fault.BadNumber)
+pub literal_case : (P : PieceOrFault → Type 0) (size : Option ℕ) (offset : ℕ) (form : Option Form) → P (Err fault.BadNumber)
     → ((f : Form) → form ≡ Some f → holds size f ≡ true → P (token kind.Based (offset + f.len))) → P (literal_with size offset form)
 unfolding literal_with
 literal_case P size offset None bad good = bad
@@ -128,8 +128,8 @@ whole_case bytes none =
     let n : ℕ = number_run bytes in
     let value : ℕ = decimal_value (take n bytes) in
     let offset : ℕ = quote_offset n bytes in
-    let based : Found = literal_at (Some value) offset bytes in
-    let other : Found = exponent_at kind.Number n bytes in
+    let based : PieceOrFault = literal_at (Some value) offset bytes in
+    let other : PieceOrFault = exponent_at kind.Number n bytes in
     either (NumberCase bytes) (not (nat_lt value 2147483648)) (Err fault.BadNumber) (if has_quote bytes then based else other) (λ _. refused fault.BadNumber) (λ not_large.
     let small : nat_lt value 2147483648 ≡ true = not-false (nat_lt value 2147483648) not_large in
     either (NumberCase bytes) (has_quote bytes) based other
@@ -148,15 +148,15 @@ plain_case : (bytes : List ℕ) → Case bytes (plain_at bytes)
 unfolding plain_at
 plain_case bytes =
     let byte : ℕ = first bytes in
-    let P : Found → Type 0 = Case bytes in
-    let literal : Found = if eqb byte 39 then literal_at None 0 bytes else mark_at bytes in
-    let directives : Found = if eqb byte 96 then directive_at bytes else literal in
-    let names : Found = if eqb byte 92 then escaped_at bytes else directives in
-    let quote : Found = if eqb byte 34 then quote_at bytes else names in
-    let opening : Found = if eqb byte 40 then open_at bytes else quote in
-    let slash : Found = if eqb byte 47 then slash_at (token kind.Mark 1) bytes else opening in
-    let numbers : Found = if is_ascii_digit byte then number_at bytes else slash in
-    let words : Found = if is_letter byte then name_at bytes else numbers in
+    let P : PieceOrFault → Type 0 = Case bytes in
+    let literal : PieceOrFault = if eqb byte 39 then literal_at None 0 bytes else mark_at bytes in
+    let directives : PieceOrFault = if eqb byte 96 then directive_at bytes else literal in
+    let names : PieceOrFault = if eqb byte 92 then escaped_at bytes else directives in
+    let quote : PieceOrFault = if eqb byte 34 then quote_at bytes else names in
+    let opening : PieceOrFault = if eqb byte 40 then open_at bytes else quote in
+    let slash : PieceOrFault = if eqb byte 47 then slash_at (token kind.Mark 1) bytes else opening in
+    let numbers : PieceOrFault = if is_ascii_digit byte then number_at bytes else slash in
+    let words : PieceOrFault = if is_letter byte then name_at bytes else numbers in
     either P (is_blank byte) (gap (blank_run bytes)) words blanks (λ _.
     either P (is_letter byte) (name_at bytes) numbers (name_case bytes) (λ no_letter.
     either P (is_ascii_digit byte) (number_at bytes) slash (λ digit. digits (number_at bytes) digit (number_case bytes)) (λ no_digit.
@@ -177,18 +177,18 @@ row_case : (bytes : List ℕ) → Case bytes (row_at bytes)
 unfolding row_at
 row_case bytes =
     let byte : ℕ = first bytes in
-    let P : Found → Type 0 = Case bytes in
-    let bad : Found = Err fault.BadByte in
-    let last : Found = if is_table_end bytes then token kind.Word 8 else bad in
-    let slash : Found = if eqb byte 47 then slash_at bad bytes else last in
-    let symbols : Found = if is_symbol byte then token kind.Symbol 1 else slash in
+    let P : PieceOrFault → Type 0 = Case bytes in
+    let bad : PieceOrFault = Err fault.BadByte in
+    let last : PieceOrFault = if is_table_end bytes then token kind.Word 8 else bad in
+    let slash : PieceOrFault = if eqb byte 47 then slash_at bad bytes else last in
+    let symbols : PieceOrFault = if is_symbol byte then token kind.Symbol 1 else slash in
     either P (is_blank byte) (gap (blank_run bytes)) symbols blanks (λ _.
     either P (is_symbol byte) (token kind.Symbol 1) slash symbol (λ _.
     either P (eqb byte 47) (slash_at bad bytes) last (λ e. slash_case bad bytes (eqb-true byte 47 e) (wrong fault.BadByte)) (λ _.
     either P (is_table_end bytes) (token kind.Word 8) bad table_end (λ _. wrong fault.BadByte))))
 
 -- whatever is found at an offset is one of the cases
-pub place_case : (table : Bool) (bytes : List ℕ) → Case bytes (place_at table bytes)
-unfolding place_at
-place_case true bytes = row_case bytes
-place_case false bytes = plain_case bytes
+pub piece_case : (table : Bool) (bytes : List ℕ) → Case bytes (piece_at table bytes)
+unfolding piece_at
+piece_case true bytes = row_case bytes
+piece_case false bytes = plain_case bytes

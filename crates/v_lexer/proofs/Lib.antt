@@ -6,7 +6,7 @@ pub mod Added
 pub mod Fronts
 pub mod Whole
 pub mod Digits
-pub mod Pieces
+pub mod Agreement
 pub mod Cuts
 pub mod Within
 pub mod Found

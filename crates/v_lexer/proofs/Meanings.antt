@@ -19,31 +19,31 @@ use Rattle.v_lexer.specs.declared.values.Literal.{Literal}
 use Rattle.v_lexer.specs.Bytes.{first, begins, is_letter, is_name_byte, is_number_byte, is_blank, is_visible, name_run, number_run, blank_run, visible_run}
 use Rattle.v_lexer.specs.Numbers.{decimal_value}
 use Rattle.v_lexer.specs.Literals.{extension_of, Form, form_at, holds, size_holds, digits_hold, value_holds, filler, fit, binary, bits_of, bits_in, is_single, bit_at}
-use Rattle.v_lexer.specs.Words.{is_reserved, reserved, grammar_words, words_of}
-use Rattle.v_lexer.specs.Places.{Found, quote_offset, is_symbol, is_table_end, place_at}
+use Rattle.v_lexer.specs.Words.{is_reserved, reserved_words, grammar_words, words_of}
+use Rattle.v_lexer.specs.Pieces.{PieceOrFault, quote_offset, is_symbol, is_table_end, piece_at}
 use Rattle.v_lexer.specs.Values.{name_text, width_of, meaning, literal_of}
 use Rattle.v_lexer.specs.Sound.{IsVisible, HasBits}
 use Rattle.v_lexer.proofs.Digits.{holds_within}
 use Rattle.v_lexer.proofs.Fronts.{name_run_some, number_run_some}
-use Rattle.v_lexer.proofs.Cases.{Case, NumberCase, place_case}
+use Rattle.v_lexer.proofs.Cases.{Case, NumberCase, piece_case}
 use Rattle.v_lexer.proofs.Cases as case
 use Rattle.v_lexer.proofs.Cuts.{run_cut, first_cut, take_cut, form_cut}
 
 -- what a kind says of the bytes of a token, which are as many as the length
-abbrev pub Meant : Option TokenKind → ℕ → List ℕ → Type 0
-Meant None len bytes = Unit {0}
-Meant (Some kind.Name) len bytes = IsVisible (name_text bytes)
-Meant (Some kind.Word) len bytes = is_reserved bytes ≡ true
-Meant (Some kind.Number) len bytes = decimal_value bytes < 2147483648
-Meant (Some kind.Based) len bytes = HasBits bytes
-Meant (Some kind.Symbol) len bytes = (len ≡ 1) × (is_symbol (first bytes) ≡ true)
-Meant (Some kind.Mark) len bytes = (len ≡ 1) × (is_visible (first bytes) ≡ true)
-Meant (Some kind.End) len bytes = ⊥
-Meant (Some other) len bytes = Unit {0}
+abbrev pub HasMeaning : Option TokenKind → ℕ → List ℕ → Type 0
+HasMeaning None len bytes = Unit {0}
+HasMeaning (Some kind.Name) len bytes = IsVisible (name_text bytes)
+HasMeaning (Some kind.Word) len bytes = is_reserved bytes ≡ true
+HasMeaning (Some kind.Number) len bytes = decimal_value bytes < 2147483648
+HasMeaning (Some kind.Based) len bytes = HasBits bytes
+HasMeaning (Some kind.Symbol) len bytes = (len ≡ 1) × (is_symbol (first bytes) ≡ true)
+HasMeaning (Some kind.Mark) len bytes = (len ≡ 1) × (is_visible (first bytes) ≡ true)
+HasMeaning (Some kind.End) len bytes = ⊥
+HasMeaning (Some other) len bytes = Unit {0}
 
 -- what is found has its meaning
-abbrev pub Says : List ℕ → Found → Type 0
-Says bytes (Ok piece) = Meant piece.kind piece.len (take piece.len bytes)
+abbrev pub Says : List ℕ → PieceOrFault → Type 0
+Says bytes (Ok piece) = HasMeaning piece.kind piece.len (take piece.len bytes)
 Says bytes (Err wrong) = Unit {0}
 
 -- a run of visible bytes
@@ -221,7 +221,7 @@ sized_reads n bytes is some small len less =
     ∙ read_by-some n (quote_offset n bytes) (take n bytes) cut some small
 
 pub endtable_is_reserved : is_reserved (codes "endtable") ≡ true
-unfolding is_reserved reserved grammar_words words_of
+unfolding is_reserved reserved_words grammar_words words_of
 endtable_is_reserved = refl
 
 table_end_is_reserved : (bytes : List ℕ) → is_table_end bytes ≡ true → is_reserved (take 8 bytes) ≡ true
@@ -231,7 +231,7 @@ table_end_is_reserved bytes is =
     ap (λ (name : List ℕ). is_reserved name) ((bytes_eq-Decides (take 8 bytes) (codes "endtable")).0 same) ∙ endtable_is_reserved
 
 -- what begins with a digit
-number_says : (bytes : List ℕ) (found : Found) → is_ascii_digit (first bytes) ≡ true → NumberCase bytes found → Says bytes found
+number_says : (bytes : List ℕ) (found : PieceOrFault) → is_ascii_digit (first bytes) ≡ true → NumberCase bytes found → Says bytes found
 number_says bytes found digit (case.refused wrong) = tt
 number_says bytes found digit (case.number plain small none) = small
 number_says bytes found digit (case.decimal some none) = tt
@@ -239,7 +239,7 @@ number_says bytes found digit (case.exponent len is some) = tt
 number_says bytes found digit (case.sized form none small quote is h) =
     based_says (Some (decimal_value (take (number_run bytes) bytes))) (quote_offset (number_run bytes) bytes) bytes form is h (sized_reads (number_run bytes) bytes refl (number_run_some bytes digit) small)
 
-says : (bytes : List ℕ) (found : Found) → Case bytes found → Says bytes found
+says : (bytes : List ℕ) (found : PieceOrFault) → Case bytes found → Says bytes found
 says bytes found (case.wrong other) = tt
 says bytes found (case.blanks blank) = tt
 says bytes found (case.line_comment is) = tt
@@ -256,5 +256,5 @@ says bytes found (case.mark visible other) = (refl, ap is_visible (first_cut 0 1
 says bytes found (case.symbol is) = (refl, ap is_symbol (first_cut 0 1 bytes (omega arith)) ∙ is)
 says bytes found (case.table_end is) = table_end_is_reserved bytes is
 
-pub place_says : (table : Bool) (bytes : List ℕ) → Says bytes (place_at table bytes)
-place_says table bytes = says bytes (place_at table bytes) (place_case table bytes)
+pub piece_says : (table : Bool) (bytes : List ℕ) → Says bytes (piece_at table bytes)
+piece_says table bytes = says bytes (piece_at table bytes) (piece_case table bytes)

@@ -18,7 +18,7 @@ use Rattle.v_lexer.specs.Bytes.{first, plus, is_letter, is_name_byte, is_number_
 use Rattle.v_lexer.specs.Quoted.{quote_end, text_len}
 use Rattle.v_lexer.specs.Numbers.{decimal_len, sign_len, exponent_len}
 use Rattle.v_lexer.specs.Literals.{Form, form_at, form_after, base_of, signed_len, holds}
-use Rattle.v_lexer.specs.Places.{Found, ended, quote_at, escaped_at, directive_at, name_at, quote_offset, number_at, plain_at, place_at}
+use Rattle.v_lexer.specs.Pieces.{PieceOrFault, piece_to_end, quote_at, escaped_at, directive_at, name_at, quote_offset, number_at, plain_at, piece_at}
 use Rattle.v_lexer.specs.Reading.{Stands}
 use Rattle.v_lexer.specs.Forms.{IsDigits, IsWord, IsEscaped, IsNumber, IsDecimal, IsExponent, IsUnsized, IsSized, IsInside, IsText, IsDirective, IsFormOf, IsLongest}
 use Rattle.v_lexer.proofs.Cases.{NumberCase, IsPlain, has_quote, either, literal_case, number_case}
@@ -26,7 +26,7 @@ use Rattle.v_lexer.proofs.Cases as case
 use Rattle.v_lexer.proofs.Cuts.{formed, form_at-formed, form_with-some, and_then-some}
 
 -- what is found has this many bytes or more
-abbrev Reaches : ℕ → Found → Type 0
+abbrev Reaches : ℕ → PieceOrFault → Type 0
 Reaches n (Ok piece) = n ≤ piece.len
 Reaches n (Err wrong) = Unit {0}
 
@@ -108,7 +108,7 @@ word_reaches : (front others : List ℕ) → IsWord front → Reaches (length fr
 unfolding name_at
 word_reaches [] others word = absurd (true≢false (sym word.0))
 word_reaches (byte ∷ front) others word =
-    subst (λ (found : Found). Reaches (length (byte ∷ front)) found) (sym (at_letter (byte ∷ (front ++ others)) word.0))
+    subst (λ (found : PieceOrFault). Reaches (length (byte ∷ front)) found) (sym (at_letter (byte ∷ (front ++ others)) word.0))
     (let long : name_run ((byte ∷ front) ++ others) ≡ length (byte ∷ front) + name_run others = run_over is_name_byte (byte ∷ front) others word.1 in omega (arith, long))
 
 escaped_reaches : (name others : List ℕ) → list_all is_visible name ≡ true → Reaches (1 + length name) (plain_at (92 ∷ (name ++ others)))
@@ -156,14 +156,14 @@ quote_has before (byte ∷ inside) others closed =
     absurd (true≢false (sym (eq-eqb before 92 (closed.1 (eqb-true byte 34 parts.0))) ∙ not-true (eqb before 92) parts.1)))
     (λ _. subst (λ m. Has m (plus 1 rest)) e (plus_has (length inside + 1) rest (quote_has byte inside others closed.2))))
 
-ended_reaches : (n : ℕ) (shape : Option TokenKind) (wrong : FaultKind) (len : Option ℕ) → Has n len → Reaches n (ended shape wrong len)
-ended_reaches n shape wrong None has = tt
-ended_reaches n shape wrong (Some m) has = has
+to_end_reaches : (n : ℕ) (shape : Option TokenKind) (wrong : FaultKind) (len : Option ℕ) → Has n len → Reaches n (piece_to_end shape wrong len)
+to_end_reaches n shape wrong None has = tt
+to_end_reaches n shape wrong (Some m) has = has
 
 text_reaches : (inside others : List ℕ) → IsInside 34 inside → Reaches (1 + (length inside + 1)) (plain_at (34 ∷ (inside ++ (34 ∷ others))))
 unfolding plain_at quote_at
 text_reaches inside others closed =
-    ended_reaches (1 + (length inside + 1)) (Some kind.Text) fault.OpenString (text_len (34 ∷ (inside ++ (34 ∷ others))))
+    to_end_reaches (1 + (length inside + 1)) (Some kind.Text) fault.OpenString (text_len (34 ∷ (inside ++ (34 ∷ others))))
     (plus_has (length inside + 1) (quote_end 34 (inside ++ (34 ∷ others))) (quote_has 34 inside others closed))
 
 -- numbers
@@ -177,7 +177,7 @@ DecimalReaches n bytes = 0 < decimal_len bytes → n ≤ decimal_len bytes + exp
 abbrev SizedReaches : ℕ → List ℕ → Type 0
 SizedReaches n bytes = (form : Form) → decimal_len bytes ≡ 0 → has_quote bytes ≡ true → form_at (drop (quote_offset (number_run bytes) bytes) bytes) ≡ Some form → n ≤ quote_offset (number_run bytes) bytes + form.len
 
-digits_reach : (n : ℕ) (bytes : List ℕ) (found : Found) → PlainReaches n bytes → DecimalReaches n bytes → SizedReaches n bytes → NumberCase bytes found → Reaches n found
+digits_reach : (n : ℕ) (bytes : List ℕ) (found : PieceOrFault) → PlainReaches n bytes → DecimalReaches n bytes → SizedReaches n bytes → NumberCase bytes found → Reaches n found
 digits_reach n bytes found plain decimal sized (case.refused wrong) = tt
 digits_reach n bytes found plain decimal sized (case.number is small none) = omega (arith, plain is, none)
 digits_reach n bytes found plain decimal sized (case.decimal some none) = omega (arith, decimal some, none)
@@ -187,7 +187,7 @@ digits_reach n bytes found plain decimal sized (case.sized form none small quote
 
 digit_reaches : (n : ℕ) (bytes : List ℕ) → is_ascii_digit (first bytes) ≡ true → PlainReaches n bytes → DecimalReaches n bytes → SizedReaches n bytes → Reaches n (plain_at bytes)
 digit_reaches n bytes digit plain decimal sized =
-    subst (λ (found : Found). Reaches n found) (sym (at_digit bytes digit)) (digits_reach n bytes (number_at bytes) plain decimal sized (number_case bytes))
+    subst (λ (found : PieceOrFault). Reaches n found) (sym (at_digit bytes digit)) (digits_reach n bytes (number_at bytes) plain decimal sized (number_case bytes))
 
 -- a decimal is longer than the number at its offset
 point_over : (point : Bool) (run d number : ℕ) → (point ≡ true → number ≤ d) → 0 < (if point then d + 1 + run else 0) → number ≤ (if point then d + 1 + run else 0)
@@ -532,11 +532,11 @@ sized_form front others form =
     carry (length front) (length front) (front ++ others) (size ++ (form.blanks ++ (39 ∷ tail))) refl bytes
     (sized_reaches (length front) (length form.rest) size form.blanks tail form.is_size form.are_blank (unsized_longer form.rest others rest) (omega (arith, len)))
 
-meets : (n : ℕ) (bytes : List ℕ) (piece : Piece) → place_at false bytes ≡ Ok piece → Reaches n (plain_at bytes) → n ≤ piece.len
-unfolding place_at
-meets n bytes piece found reaches = subst (λ (f : Found). Reaches n f) found reaches
+meets : (n : ℕ) (bytes : List ℕ) (piece : Piece) → piece_at false bytes ≡ Ok piece → Reaches n (plain_at bytes) → n ≤ piece.len
+unfolding piece_at
+meets n bytes piece found reaches = subst (λ (f : PieceOrFault). Reaches n f) found reaches
 
-form_meets : (shape : TokenKind) (front others : List ℕ) (piece : Piece) → 0 < piece.len → place_at false (front ++ others) ≡ Ok piece → IsFormOf shape front → length front ≤ piece.len
+form_meets : (shape : TokenKind) (front others : List ℕ) (piece : Piece) → 0 < piece.len → piece_at false (front ++ others) ≡ Ok piece → IsFormOf shape front → length front ≤ piece.len
 form_meets kind.Name front others piece some found (inl word) = meets (length front) (front ++ others) piece found (word_reaches front others word.0)
 form_meets kind.Name front others piece some found (inr form) = meets (length front) (front ++ others) piece found (name_form front others form)
 form_meets kind.Word front others piece some found form = meets (length front) (front ++ others) piece found (word_reaches front others form.0)
@@ -553,4 +553,4 @@ form_meets kind.End front others piece some found form = absurd form
 
 pub reaches_longest : (text : List ℕ) (at : ℕ) (piece : Piece) → Stands text false at piece → IsLongest (drop at text) piece.len
 reaches_longest text at piece stands shape front others is form =
-    form_meets shape front others piece stands.some (ap (place_at false) (sym is) ∙ stands.found) form
+    form_meets shape front others piece stands.some (ap (piece_at false) (sym is) ∙ stands.found) form

@@ -18,22 +18,22 @@ use Rattle.v_lexer.specs.Quoted.{quote_end, text_len}
 use Rattle.v_lexer.specs.Numbers.{decimal_len, sign_len, exponent_head, exponent_len}
 use Rattle.v_lexer.specs.Literals.{Form, form_at, form_with, form_after, base_of, signed_len, holds}
 use Rattle.v_lexer.specs.Words.{is_reserved}
-use Rattle.v_lexer.specs.Places.{Found, quote_offset, symbols, is_symbol, is_table_end, place_at}
+use Rattle.v_lexer.specs.Pieces.{PieceOrFault, quote_offset, symbols, is_symbol, is_table_end, piece_at}
 use Rattle.v_lexer.specs.Forms.{IsDigits, IsWord, IsEscaped, IsNumber, IsDecimal, IsExponent, IsUnsized, IsSized, IsInside, IsText, IsDirective, begins_other, IsMark, IsTableByte, IsFormOf}
 use Rattle.v_lexer.proofs.Fronts.{name_run_some, number_run_some}
-use Rattle.v_lexer.proofs.Cases.{Case, NumberCase, IsNumberLen, place_case}
+use Rattle.v_lexer.proofs.Cases.{Case, NumberCase, IsNumberLen, piece_case}
 use Rattle.v_lexer.proofs.Cases as case
 use Rattle.v_lexer.proofs.Cuts.{first_cut, formed, form_at-formed, form_with-some, and_then-some}
 use Rattle.v_lexer.proofs.Meanings.{endtable_is_reserved}
 
 -- a token has the form of its kind
-abbrev pub Shaped : Option TokenKind → List ℕ → Type 0
-Shaped None bytes = Unit {0}
-Shaped (Some shape) bytes = IsFormOf shape bytes
+abbrev pub HasShape : Option TokenKind → List ℕ → Type 0
+HasShape None bytes = Unit {0}
+HasShape (Some shape) bytes = IsFormOf shape bytes
 
 -- what is found has the form of its kind
-abbrev pub Takes : List ℕ → Found → Type 0
-Takes bytes (Ok piece) = Shaped piece.kind (take piece.len bytes)
+abbrev pub Takes : List ℕ → PieceOrFault → Type 0
+Takes bytes (Ok piece) = HasShape piece.kind (take piece.len bytes)
 Takes bytes (Err wrong) = Unit {0}
 
 -- runs
@@ -310,7 +310,7 @@ before_exponent : (bytes : List ℕ) (len : ℕ) → is_ascii_digit (first bytes
 before_exponent bytes len digit (inl whole) = inl (subst (λ n. IsNumber (take n bytes)) (sym whole.1) (number_takes bytes digit))
 before_exponent bytes len digit (inr part) = inr (subst (λ n. IsDecimal (take n bytes)) (sym part.1) (decimal_takes bytes digit part.0))
 
-number_has_form : (bytes : List ℕ) (found : Found) → is_ascii_digit (first bytes) ≡ true → NumberCase bytes found → Takes bytes found
+number_has_form : (bytes : List ℕ) (found : PieceOrFault) → is_ascii_digit (first bytes) ≡ true → NumberCase bytes found → Takes bytes found
 number_has_form bytes found digit (case.refused wrong) = tt
 number_has_form bytes found digit (case.number plain small none) = number_takes bytes digit
 number_has_form bytes found digit (case.decimal some none) = decimal_takes bytes digit some
@@ -318,7 +318,7 @@ number_has_form bytes found digit (case.exponent len is some) = exponent_takes l
 number_has_form bytes found digit (case.sized form none small quote is holds) =
     inr (sized_takes (number_run bytes) bytes form (number_takes bytes digit) (eqb-true (first (drop (quote_offset (number_run bytes) bytes) bytes)) 39 quote) is)
 
-has_form : (bytes : List ℕ) (found : Found) → Case bytes found → Takes bytes found
+has_form : (bytes : List ℕ) (found : PieceOrFault) → Case bytes found → Takes bytes found
 has_form bytes found (case.wrong other) = tt
 has_form bytes found (case.blanks blank) = tt
 has_form bytes found (case.line_comment is) = tt
@@ -337,5 +337,5 @@ has_form bytes found (case.mark visible other) = mark_takes bytes visible other
 has_form bytes found (case.symbol is) = symbol_takes bytes is
 has_form bytes found (case.table_end is) = table_end_takes bytes is
 
-pub place_takes : (table : Bool) (bytes : List ℕ) → Takes bytes (place_at table bytes)
-place_takes table bytes = has_form bytes (place_at table bytes) (place_case table bytes)
+pub piece_takes : (table : Bool) (bytes : List ℕ) → Takes bytes (piece_at table bytes)
+piece_takes table bytes = has_form bytes (piece_at table bytes) (piece_case table bytes)

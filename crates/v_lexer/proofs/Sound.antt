@@ -6,14 +6,14 @@ use Rattle.v_lexer.specs.declared.token.TokenKind.TheVariants as kind
 use Rattle.v_lexer.specs.declared.token.Token.{Token}
 use Rattle.v_lexer.specs.declared.token.Piece.{Piece}
 use Rattle.v_lexer.specs.declared.fault.LexFault.{LexFault}
-use Rattle.v_lexer.specs.Places.{Found, table_after}
-use Rattle.v_lexer.specs.Tokens.{end_at, given}
+use Rattle.v_lexer.specs.Pieces.{PieceOrFault, table_after}
+use Rattle.v_lexer.specs.Tokens.{end_at, tokens_of_piece}
 use Rattle.v_lexer.specs.Reading.{line_of, Stands, Reads, AreTokensOf}
 use Rattle.v_lexer.specs.Sound.{IsSound, AreSound}
-use Rattle.v_lexer.proofs.Meanings.{Meant, Says, place_says}
+use Rattle.v_lexer.proofs.Meanings.{HasMeaning, Says, piece_says}
 use Rattle.v_lexer.proofs.Decimals.{has_digits}
 use Rattle.v_lexer.specs.Forms.{IsFormOf}
-use Rattle.v_lexer.proofs.Shapes.{Shaped, Takes, place_takes}
+use Rattle.v_lexer.proofs.Shapes.{HasShape, Takes, piece_takes}
 
 -- a kind that isn't the end
 abbrev IsOther : TokenKind → Type 0
@@ -23,20 +23,20 @@ IsOther other = Unit {0}
 other_kind : (other : TokenKind) → IsOther other → kind.End ≡ other → ⊥
 other_kind other is e = subst IsOther (sym e) is
 
-meant_here : (text : List ℕ) (table : Bool) (at : ℕ) (piece : Piece) → Stands text table at piece → Meant piece.kind piece.len (take piece.len (drop at text))
-meant_here text table at piece stands = subst (λ (found : Found). Says (drop at text) found) stands.found (place_says table (drop at text))
+meaning_here : (text : List ℕ) (table : Bool) (at : ℕ) (piece : Piece) → Stands text table at piece → HasMeaning piece.kind piece.len (take piece.len (drop at text))
+meaning_here text table at piece stands = subst (λ (found : PieceOrFault). Says (drop at text) found) stands.found (piece_says table (drop at text))
 
-shape_here : (text : List ℕ) (table : Bool) (at : ℕ) (piece : Piece) → Stands text table at piece → Shaped piece.kind (take piece.len (drop at text))
-shape_here text table at piece stands = subst (λ (found : Found). Takes (drop at text) found) stands.found (place_takes table (drop at text))
+shape_here : (text : List ℕ) (table : Bool) (at : ℕ) (piece : Piece) → Stands text table at piece → HasShape piece.kind (take piece.len (drop at text))
+shape_here text table at piece stands = subst (λ (found : PieceOrFault). Takes (drop at text) found) stands.found (piece_takes table (drop at text))
 
 -- the token of a piece is sound
-token_sound : (text : List ℕ) (at len : ℕ) (shape : TokenKind) → IsFormOf shape (take len (drop at text)) → Meant (Some shape) len (take len (drop at text)) → 0 < len → at + len ≤ length text
+token_sound : (text : List ℕ) (at len : ℕ) (shape : TokenKind) → IsFormOf shape (take len (drop at text)) → HasMeaning (Some shape) len (take len (drop at text)) → 0 < len → at + len ≤ length text
     → IsSound text (record { kind = shape; start = at; end = at + len; line = line_of text at })
 token_sound text at len shape form meant some within =
     let bytes : List ℕ = slice_range text at (at + len) in
     let same : len ≡ at + len - at = omega arith in
-    let says : Meant (Some shape) len bytes = subst (λ n. Meant (Some shape) len (take n (drop at text))) same meant in
-    let as_kind : (other : TokenKind) → shape ≡ other → Meant (Some other) len bytes = λ other e. subst (λ (k : TokenKind). Meant (Some k) len bytes) e says in
+    let says : HasMeaning (Some shape) len bytes = subst (λ n. HasMeaning (Some shape) len (take n (drop at text))) same meant in
+    let as_kind : (other : TokenKind) → shape ≡ other → HasMeaning (Some other) len bytes = λ other e. subst (λ (k : TokenKind). HasMeaning (Some k) len bytes) e says in
     record {
       ordered = omega arith;
       within = within;
@@ -70,12 +70,12 @@ end_sound text at is = record {
   last = λ _. is;
 }
 
-given_sound : (text : List ℕ) (at len : ℕ) (shape : Option TokenKind) (others : List Token) → Shaped shape (take len (drop at text)) → Meant shape len (take len (drop at text)) → 0 < len → at + len ≤ length text
-    → AreSound text others → AreSound text (given at (line_of text at) shape len ++ others)
-given_sound text at len None others form meant some within sound = sound
-given_sound text at len (Some shape) others form meant some within sound = (
+piece_sound : (text : List ℕ) (at len : ℕ) (shape : Option TokenKind) (others : List Token) → HasShape shape (take len (drop at text)) → HasMeaning shape len (take len (drop at text)) → 0 < len → at + len ≤ length text
+    → AreSound text others → AreSound text (tokens_of_piece at (line_of text at) shape len ++ others)
+piece_sound text at len None others form meant some within sound = sound
+piece_sound text at len (Some shape) others form meant some within sound = (
   token_sound text at len shape form meant some within,
-  λ e. absurd (subst (λ (k : TokenKind). Meant (Some k) len (take len (drop at text))) e meant),
+  λ e. absurd (subst (λ (k : TokenKind). HasMeaning (Some k) len (take len (drop at text))) e meant),
   λ _. sound,
 )
 
@@ -85,7 +85,7 @@ reads_sound text table at [] tokens reads =
     subst (λ (ts : List Token). AreSound text ts) (sym reads.1) one
 reads_sound text table at (piece ∷ pieces) tokens reads =
     subst (λ (ts : List Token). AreSound text ts) (sym reads.2)
-    (given_sound text at piece.len piece.kind reads.0 (shape_here text table at piece reads.1) (meant_here text table at piece reads.1) reads.1.some reads.1.within
+    (piece_sound text at piece.len piece.kind reads.0 (shape_here text table at piece reads.1) (meaning_here text table at piece reads.1) reads.1.some reads.1.within
     (reads_sound text (table_after table piece (drop at text)) (at + piece.len) pieces reads.0 reads.3))
 
 pub are_sound : (text : List ℕ) (tokens : List Token) → AreTokensOf text tokens → AreSound text tokens

@@ -14,14 +14,14 @@ use Rattle.v_lexer.specs.Quoted.{quote_end}
 use Rattle.v_lexer.specs.Gaps.{comment_end, quoted_after, attribute_end}
 use Rattle.v_lexer.specs.Numbers.{decimal_len, exponent_head, exponent_len}
 use Rattle.v_lexer.specs.Literals.{Form, base_of, signed_len, form_after, form_at, holds}
-use Rattle.v_lexer.specs.Places.{Found, quote_offset, is_table_end, place_at}
+use Rattle.v_lexer.specs.Pieces.{PieceOrFault, quote_offset, is_table_end, piece_at}
 use Rattle.v_lexer.proofs.Fronts.{name_run_some, number_run_some, blank_run_some}
-use Rattle.v_lexer.proofs.Cases.{Case, NumberCase, IsNumberLen, place_case}
+use Rattle.v_lexer.proofs.Cases.{Case, NumberCase, IsNumberLen, piece_case}
 use Rattle.v_lexer.proofs.Cases as case
 use Rattle.v_lexer.proofs.Cuts.{form_at-formed, formed, form_with-some, and_then-some}
 
 -- what is found has one byte or more, and so many at most
-abbrev Within : ℕ → Found → Type 0
+abbrev Within : ℕ → PieceOrFault → Type 0
 Within n (Ok piece) = (0 < piece.len) × (piece.len ≤ n)
 Within n (Err wrong) = Unit {0}
 
@@ -155,7 +155,7 @@ number_le : (bytes : List ℕ) (len : ℕ) → IsNumberLen bytes len → len ≤
 number_le bytes len (inl whole) = omega (arith, whole.1, prefix_len-le-length is_number_byte bytes)
 number_le bytes len (inr part) = omega (arith, part.1, decimal_le bytes)
 
-number_within : (bytes : List ℕ) (found : Found) → is_ascii_digit (first bytes) ≡ true → NumberCase bytes found → Within (length bytes) found
+number_within : (bytes : List ℕ) (found : PieceOrFault) → is_ascii_digit (first bytes) ≡ true → NumberCase bytes found → Within (length bytes) found
 number_within bytes found digit (case.refused wrong) = tt
 number_within bytes found digit (case.number plain small none) = front_within is_number_byte bytes (number_run_some bytes digit)
 number_within bytes found digit (case.decimal some none) = (some, decimal_le bytes)
@@ -163,7 +163,7 @@ number_within bytes found digit (case.exponent len is some) =
     (omega (arith, some), omega (arith, number_le bytes len is, exponent_le (drop len bytes), length-drop len bytes))
 number_within bytes found digit (case.sized form none small quote is holds) = based_within (quote_offset (number_run bytes) bytes) bytes form is
 
-found_within : (bytes : List ℕ) (found : Found) → 0 < length bytes → Case bytes found → Within (length bytes) found
+found_within : (bytes : List ℕ) (found : PieceOrFault) → 0 < length bytes → Case bytes found → Within (length bytes) found
 found_within bytes found some (case.wrong other) = tt
 found_within bytes found some (case.blanks blank) = front_within is_blank bytes (blank_run_some bytes blank)
 found_within bytes found some (case.line_comment is) = front_within _ bytes (line_some bytes is)
@@ -184,5 +184,5 @@ found_within bytes found some (case.symbol is) = one_within bytes some
 found_within bytes found some (case.table_end is) = (omega arith, table_end_long bytes is)
 
 -- what is found lies in the text
-pub place_within : (table : Bool) (bytes : List ℕ) (piece : Piece) → 0 < length bytes → place_at table bytes ≡ Ok piece → (0 < piece.len) × (piece.len ≤ length bytes)
-place_within table bytes piece some is = subst (λ (found : Found). Within (length bytes) found) is (found_within bytes (place_at table bytes) some (place_case table bytes))
+pub piece_within : (table : Bool) (bytes : List ℕ) (piece : Piece) → 0 < length bytes → piece_at table bytes ≡ Ok piece → (0 < piece.len) × (piece.len ≤ length bytes)
+piece_within table bytes piece some is = subst (λ (found : PieceOrFault). Within (length bytes) found) is (found_within bytes (piece_at table bytes) some (piece_case table bytes))

@@ -8,7 +8,7 @@ use Rattle.v_lexer.specs.declared.literals.Base.{Base}
 use Rattle.v_lexer.specs.Bytes.{first, is_letter, is_name_byte, is_number_byte, is_literal_byte, is_blank, is_visible}
 use Rattle.v_lexer.specs.Literals.{base_of}
 use Rattle.v_lexer.specs.Words.{is_reserved}
-use Rattle.v_lexer.specs.Places.{is_symbol}
+use Rattle.v_lexer.specs.Pieces.{is_symbol}
 
 -- one or more digits
 abbrev pub IsDigits : List ℕ → Type 0

@@ -5,7 +5,7 @@ pub mod Numbers
 pub mod Literals
 pub mod Needed
 pub mod Words
-pub mod Places
+pub mod Pieces
 pub mod Tokens
 pub mod Values
 pub mod Reading

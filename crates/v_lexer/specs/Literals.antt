@@ -115,14 +115,14 @@ bit_at byte weight =
     else Zero
 
 -- the bits of a digit by their weights, leftmost first
-unfoldable pub weighed : Base → ℕ → List Bit
-weighed Binary byte = bit_at byte 1 ∷ []
-weighed Octal byte = bit_at byte 4 ∷ bit_at byte 2 ∷ bit_at byte 1 ∷ []
-weighed base byte = bit_at byte 8 ∷ bit_at byte 4 ∷ bit_at byte 2 ∷ bit_at byte 1 ∷ []
+unfoldable pub bits_by_weight : Base → ℕ → List Bit
+bits_by_weight Binary byte = bit_at byte 1 ∷ []
+bits_by_weight Octal byte = bit_at byte 4 ∷ bit_at byte 2 ∷ bit_at byte 1 ∷ []
+bits_by_weight base byte = bit_at byte 8 ∷ bit_at byte 4 ∷ bit_at byte 2 ∷ bit_at byte 1 ∷ []
 
 -- the bits of a digit: `_` has none
 unfoldable pub digit_bits : Base → ℕ → List Bit
-digit_bits base byte = if byte == 95 then [] else weighed base byte
+digit_bits base byte = if byte == 95 then [] else bits_by_weight base byte
 
 -- the bits of all digits of a base that isn't decimal
 unfoldable pub bits_of : Base → List ℕ → List Bit
@@ -130,10 +130,10 @@ bits_of base [] = []
 bits_of base (byte ∷ bytes) = digit_bits base byte ++ bits_of base bytes
 
 -- how many bits there are after leading zeros
-unfoldable pub needed : List Bit → ℕ
-needed [] = 0
-needed (Zero ∷ bits) = needed bits
-needed (bit ∷ bits) = length (bit ∷ bits)
+unfoldable pub needed_len : List Bit → ℕ
+needed_len [] = 0
+needed_len (Zero ∷ bits) = needed_len bits
+needed_len (bit ∷ bits) = length (bit ∷ bits)
 
 -- the size is from 1 to 128, where there is one
 abbrev pub size_holds : Option ℕ → Bool
@@ -145,7 +145,7 @@ unfoldable pub value_holds : Option ℕ → Base → List ℕ → Bool
 value_holds None Decimal digits = is_single digits || nat_le (decimal_value digits) 4294967295
 value_holds (Some size) Decimal digits = is_single digits
     || nat_le (decimal_value digits) 340282366920938463463374607431768211455
-value_holds None base digits = nat_le (needed (bits_of base digits)) 32
+value_holds None base digits = nat_le (needed_len (bits_of base digits)) 32
 value_holds (Some size) base digits = true
 
 -- the number has none of the faults of a based number

@@ -3,11 +3,10 @@ use Rattle.std.specs.Prelude.{ℕ, ◌+◌, ◌<◌, ◌≤◌, ◌≡◌, Bool,
 use Rattle.v_lexer.specs.declared.token.Token.{Token}
 use Rattle.v_lexer.specs.declared.token.Piece.{Piece}
 use Rattle.v_lexer.specs.declared.fault.FaultKind.{FaultKind}
-use Rattle.v_lexer.specs.declared.fault.FaultKind.TheVariants as kind
 use Rattle.v_lexer.specs.declared.fault.LexFault.{LexFault}
 use Rattle.v_lexer.specs.declared.fault.LexFault.TheVariants as fault
-use Rattle.v_lexer.specs.Places.{place_at, table_after}
-use Rattle.v_lexer.specs.Tokens.{lines_after, end_at, given}
+use Rattle.v_lexer.specs.Pieces.{piece_at, table_after}
+use Rattle.v_lexer.specs.Tokens.{lines_after, end_at, tokens_of_piece}
 
 -- the line of an offset: 1, and the line feeds before it
 abbrev pub line_of : List ℕ → ℕ → ℕ
@@ -15,7 +14,7 @@ line_of text at = lines_after 1 (take at text)
 
 -- the piece is what stands at the offset, and lies in the text
 pub record Stands (text : List ℕ) (table : Bool) (at : ℕ) (piece : Piece) : Type 0 where
-  pub found : place_at table (drop at text) ≡ Ok piece
+  pub found : piece_at table (drop at text) ≡ Ok piece
   pub some : 0 < piece.len
   pub within : at + piece.len ≤ length text
 
@@ -24,13 +23,13 @@ abbrev pub Reads : List ℕ → Bool → ℕ → List Piece → List Token → T
 Reads text table at [] tokens = (at ≡ length text) × (tokens ≡ end_at at (line_of text at) ∷ [])
 Reads text table at (piece ∷ pieces) tokens =
     (others : List Token) × Stands text table at piece
-    × (tokens ≡ given at (line_of text at) piece.kind piece.len ++ others)
+    × (tokens ≡ tokens_of_piece at (line_of text at) piece.kind piece.len ++ others)
     × Reads text (table_after table piece (drop at text)) (at + piece.len) pieces others
 
 -- from an offset on the text is these pieces up to a fault, which is in the line
 abbrev pub Stops : List ℕ → FaultKind → ℕ → Bool → ℕ → List Piece → Type 0
 Stops text wrong line table at [] = (at < length text)
-    × (place_at table (drop at text) ≡ Err wrong) × (line ≡ line_of text at)
+    × (piece_at table (drop at text) ≡ Err wrong) × (line ≡ line_of text at)
 Stops text wrong line table at (piece ∷ pieces) = Stands text table at piece
     × Stops text wrong line (table_after table piece (drop at text)) (at + piece.len) pieces
 
@@ -45,10 +44,7 @@ StopsAt text wrong line = (pieces : List Piece) × Stops text wrong line false 0
 -- the fault is the first of the text: want of memory says nothing of it
 abbrev pub IsFaultOf : List ℕ → LexFault → Type 0
 IsFaultOf text fault.Memory = Unit {0}
-IsFaultOf text (fault.BadByte line) = StopsAt text kind.BadByte line
-IsFaultOf text (fault.OpenComment line) = StopsAt text kind.OpenComment line
-IsFaultOf text (fault.OpenString line) = StopsAt text kind.OpenString line
-IsFaultOf text (fault.BadNumber line) = StopsAt text kind.BadNumber line
+IsFaultOf text (fault.Faulty wrong line) = StopsAt text wrong line
 
 -- each token begins at or after the end of the one before, and ends at or after its beginning
 abbrev pub Rise : ℕ → List Token → Type 0

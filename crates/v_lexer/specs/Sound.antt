@@ -7,7 +7,7 @@ use Rattle.v_lexer.specs.declared.values.Literal.{Literal}
 use Rattle.v_lexer.specs.Bytes.{first, is_visible}
 use Rattle.v_lexer.specs.Numbers.{decimal_value}
 use Rattle.v_lexer.specs.Words.{is_reserved}
-use Rattle.v_lexer.specs.Places.{is_symbol}
+use Rattle.v_lexer.specs.Pieces.{is_symbol}
 use Rattle.v_lexer.specs.Forms.{IsFormOf}
 use Rattle.v_lexer.specs.Reading.{line_of}
 use Rattle.v_lexer.specs.Values.{name_text, decimal_digits, width_of, literal_of}

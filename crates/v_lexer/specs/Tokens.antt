@@ -3,15 +3,13 @@ use Rattle.std.specs.Prelude.{ℕ, zero, suc, ◌+◌, ◌-◌, Bool, false, ◌
 use Rattle.v_lexer.specs.declared.token.TokenKind.{TokenKind}
 use Rattle.v_lexer.specs.declared.token.TokenKind.TheVariants.{End}
 use Rattle.v_lexer.specs.declared.token.Token.{Token}
-use Rattle.v_lexer.specs.declared.fault.FaultKind.{FaultKind}
-use Rattle.v_lexer.specs.declared.fault.FaultKind.TheVariants as kind
 use Rattle.v_lexer.specs.declared.fault.LexFault.{LexFault}
 use Rattle.v_lexer.specs.declared.fault.LexFault.TheVariants as fault
-use Rattle.v_lexer.specs.Places.{Found, place_at, table_after}
+use Rattle.v_lexer.specs.Pieces.{PieceOrFault, piece_at, table_after}
 
 -- tokens, or a fault with its line
-abbrev pub Lexed : Type 0
-Lexed = Result (List Token) LexFault
+abbrev pub TokensOrFault : Type 0
+TokensOrFault = Result (List Token) LexFault
 
 -- the line of what follows a byte
 abbrev pub line_after : ℕ → ℕ → ℕ
@@ -22,52 +20,45 @@ unfoldable pub lines_after : ℕ → List ℕ → ℕ
 lines_after line [] = line
 lines_after line (byte ∷ bytes) = lines_after (line_after line byte) bytes
 
--- the fault at a line
-abbrev pub fault_at : FaultKind → ℕ → LexFault
-fault_at kind.BadByte line = fault.BadByte line
-fault_at kind.OpenComment line = fault.OpenComment line
-fault_at kind.OpenString line = fault.OpenString line
-fault_at kind.BadNumber line = fault.BadNumber line
-
 -- the end of the text
 abbrev pub end_at : ℕ → ℕ → Token
 end_at at line = record { kind = End; start = at; end = at; line = line }
 
--- the token of a kind and a length that stands at an offset of a line: none for blanks, comments and attributes
-abbrev pub given : ℕ → ℕ → Option TokenKind → ℕ → List Token
-given at line None len = []
-given at line (Some kind) len = record { kind = kind; start = at; end = at + len; line = line } ∷ []
+-- the tokens of a piece of a kind and a length at an offset of a line: one, and none for blanks, comments and attributes
+abbrev pub tokens_of_piece : ℕ → ℕ → Option TokenKind → ℕ → List Token
+tokens_of_piece at line None len = []
+tokens_of_piece at line (Some kind) len = record { kind = kind; start = at; end = at + len; line = line } ∷ []
 
 -- tokens before others
-abbrev pub onto : List Token → Lexed → Lexed
+abbrev pub onto : List Token → TokensOrFault → TokensOrFault
 onto tokens (Ok others) = Ok (tokens ++ others)
 onto tokens (Err fault) = Err fault
 
--- what is found at an offset of a line, and the tokens after it
-unfoldable pub found_at : ℕ → ℕ → Bool → List ℕ → Found → (ℕ → Bool → Lexed) → Lexed
-found_at at line table bytes (Err wrong) rest = Err (fault_at wrong line)
-found_at at line table bytes (Ok piece) rest =
-    onto (given at line piece.kind piece.len) (rest (piece.len - 1) (table_after table piece bytes))
+-- the token of what stands at an offset of a line, and the tokens after it
+unfoldable pub tokens_at : ℕ → ℕ → Bool → List ℕ → PieceOrFault → (ℕ → Bool → TokensOrFault) → TokensOrFault
+tokens_at at line table bytes (Err wrong) rest = Err (fault.Faulty wrong line)
+tokens_at at line table bytes (Ok piece) rest =
+    onto (tokens_of_piece at line piece.kind piece.len) (rest (piece.len - 1) (table_after table piece bytes))
 
 -- the tokens from an offset of a line on, whose first `inside` bytes belong to what began before
-unfoldable pub tokens_from : ℕ → Bool → ℕ → ℕ → List ℕ → Lexed
+unfoldable pub tokens_from : ℕ → Bool → ℕ → ℕ → List ℕ → TokensOrFault
 tokens_from inside table at line [] = Ok (end_at at line ∷ [])
 tokens_from (suc inside) table at line (byte ∷ bytes) =
     tokens_from inside table (at + 1) (line_after line byte) bytes
 tokens_from zero table at line (byte ∷ bytes) =
-    found_at at line table (byte ∷ bytes) (place_at table (byte ∷ bytes))
+    tokens_at at line table (byte ∷ bytes) (piece_at table (byte ∷ bytes))
     (λ inside after. tokens_from inside after (at + 1) (line_after line byte) bytes)
 
 -- the tokens of a text, or its first lexical fault
-unfoldable pub tokens_of : List ℕ → Lexed
+unfoldable pub tokens_of : List ℕ → TokensOrFault
 tokens_of text = tokens_from 0 false 0 1 text
 
 -- a fault, where the answer is known: want of memory says nothing of it
-abbrev pub Fails : LexFault → Lexed → Type 0
+abbrev pub Fails : LexFault → TokensOrFault → Type 0
 Fails fault.Memory answer = Unit {0}
-Fails wrong answer = answer ≡ Err wrong
+Fails (fault.Faulty wrong line) answer = answer ≡ Err (fault.Faulty wrong line)
 
 -- what was returned, seen by `view`, is the answer, unless memory ran out
-abbrev pub Gives : {X : Type 0} → (X → List Token) → Result X LexFault → Lexed → Type 0
+abbrev pub Gives : {X : Type 0} → (X → List Token) → Result X LexFault → TokensOrFault → Type 0
 Gives view (Ok x) answer = answer ≡ Ok (view x)
 Gives view (Err wrong) answer = Fails wrong answer

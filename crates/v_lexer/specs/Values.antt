@@ -5,7 +5,7 @@ use Rattle.v_lexer.specs.declared.values.DecimalDigits.{DecimalDigits}
 use Rattle.v_lexer.specs.Bytes.{first, number_run, digit_run}
 use Rattle.v_lexer.specs.Numbers.{decimal_value}
 use Rattle.v_lexer.specs.Literals.{Form, form_at, holds, bits_in, extension_of}
-use Rattle.v_lexer.specs.Places.{quote_offset}
+use Rattle.v_lexer.specs.Pieces.{quote_offset}
 
 -- the text of a name: an escaped one is without its `\`
 abbrev pub name_text : List ℕ → List ℕ

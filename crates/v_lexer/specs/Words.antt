@@ -29,12 +29,12 @@ left_out_words =
     words_of (codes "always automatic begin case casex casez deassign defparam disable edge else end endcase endfunction endgenerate endspecify endtask event for force forever fork function generate genvar if initial integer join localparam negedge parameter posedge real realtime reg release repeat signed specify specparam task time unsigned uwire wait while")
 
 -- the words of the grammar, and then those that it leaves out
-unfoldable pub reserved : List (List ℕ)
-reserved = grammar_words ++ left_out_words
+unfoldable pub reserved_words : List (List ℕ)
+reserved_words = grammar_words ++ left_out_words
 
 -- a name is one of the reserved words
 unfoldable pub is_reserved : List ℕ → Bool
-is_reserved name = is_among name reserved
+is_reserved name = is_among name reserved_words
 
 -- the first byte is a letter or `_`
 abbrev pub begins_name : List ℕ → Bool

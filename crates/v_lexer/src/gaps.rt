@@ -52,7 +52,7 @@ fn quoted_after(text: &[u8]) -> usize
 }
 
 /// How many bytes after the first are passed over: those of a text in quotes, where a `"` may still begin one.
-fn passed(stray: bool, text: &[u8]) -> usize
+fn skip_len(stray: bool, text: &[u8]) -> usize
     requires { 0 < length text.now }
     ensures len { result ≡ (if stray then 0 else quoted_after text.now) }
     ensures within { result + 1 ≤ length text.now }
@@ -61,10 +61,10 @@ fn passed(stray: bool, text: &[u8]) -> usize
 }
 
 /// Whether no `"` behind a byte can begin a text on its line: one that came before began none.
-fn stays_stray(stray: bool, byte: u8, passed: usize) -> bool
-    ensures { result ≡ (not (byte == 10) && (stray || (byte == 34 && passed == 0))) }
+fn stays_stray(stray: bool, byte: u8, inside: usize) -> bool
+    ensures { result ≡ (not (byte == 10) && (stray || (byte == 34 && inside == 0))) }
 {
-    byte != b'\n' && (stray || (byte == b'"' && passed == 0))
+    byte != b'\n' && (stray || (byte == b'"' && inside == 0))
 }
 
 /// The length up to the first `*)` outside a text in quotes, with it.
@@ -83,7 +83,7 @@ fn attribute_end(text: &[u8]) -> Option<usize>
         if begins(rest, b'*', b')') {
             return Some(len + 2);
         }
-        let inside = passed(stray, rest);
+        let inside = skip_len(stray, rest);
         stray = stays_stray(stray, first(rest), inside);
         len += 1 + inside;
         rest = after(rest, 1 + inside);

@@ -1,31 +1,19 @@
 ghost use Rattle.std.specs.Prelude.{ℕ, false, drop, ◌≡◌, ◌≤◌, ◌<◌, ◌+◌, ◌^◌, ◌++◌, List, length, Ok, Err, OnOk, IfOk, IfErr};
 ghost use Rattle.v_lexer.specs.declared.fault.FaultKind.{FaultKind};
-ghost use Rattle.v_lexer.specs.declared.fault.LexFault.TheVariants.{Memory};
+ghost use Rattle.v_lexer.specs.declared.fault.LexFault.TheVariants.{Faulty, Memory};
 ghost use Rattle.v_lexer.specs.declared.token.Token.{Token};
 ghost use Rattle.v_lexer.specs.declared.token.Piece.{Piece};
 ghost use Rattle.v_lexer.specs.Reading.{Stands, AreTokensOf, IsFaultOf, StopsAt, Rise};
 ghost use Rattle.v_lexer.specs.Forms.{IsLongest};
 ghost use Rattle.v_lexer.specs.Sound.{AreSound};
-ghost use Rattle.v_lexer.specs.Tokens.{given, fault_at, lines_after, tokens_of, Gives};
+ghost use Rattle.v_lexer.specs.Tokens.{tokens_of_piece, lines_after, tokens_of, Gives};
 
-use crate::fault::{FaultKind, LexFault};
+use crate::fault::LexFault;
 use crate::lists::TokenList;
-use crate::places::{place_at, table_after};
+use crate::pieces::{piece_at, table_after};
 use crate::token::{Piece, Token, TokenKind};
 use crate::words::ReservedWords;
 use std::alloc::Global;
-
-/// The fault at a line.
-fn fault_at(kind: FaultKind, line: u32) -> LexFault
-    ensures { result ≡ fault_at kind line }
-{
-    match kind {
-        FaultKind::BadByte => LexFault::BadByte(u64::from(line)),
-        FaultKind::OpenComment => LexFault::OpenComment(u64::from(line)),
-        FaultKind::OpenString => LexFault::OpenString(u64::from(line)),
-        FaultKind::BadNumber => LexFault::BadNumber(u64::from(line)),
-    }
-}
 
 /// The line of what follows these bytes.
 #[tactic(auto, unfolding(crate::specs::Tokens::lines_after))]
@@ -46,10 +34,10 @@ fn lines_after(line: u32, bytes: &[u8]) -> u32
 }
 
 /// Puts a token at the end, where the piece is one.
-fn push_given(tokens: &mut Vec<Token>, piece: Piece, at: u32, line: u32) -> Result<(), LexFault>
+fn push_piece(tokens: &mut Vec<Token>, piece: Piece, at: u32, line: u32) -> Result<(), LexFault>
     requires { at + piece.len < 2 ^ 32 }
     ensures ok { OnOk result
-        (tokens.new.items ≡ tokens.old.items ++ given at line piece.kind piece.len) }
+        (tokens.new.items ≡ tokens.old.items ++ tokens_of_piece at line piece.kind piece.len) }
     ensures err { IfErr result (λ e. e ≡ Memory) }
 {
     match piece.kind {
@@ -68,7 +56,7 @@ fn push_given(tokens: &mut Vec<Token>, piece: Piece, at: u32, line: u32) -> Resu
 
 /// The tokens of a text, or its first lexical fault.
 #[tactic(auto, unfolding(crate::specs::Tokens::tokens_of))]
-fn lexed(alloc: Global, text: &[u8]) -> Result<TokenList, LexFault>
+fn read_tokens(alloc: Global, text: &[u8]) -> Result<TokenList, LexFault>
     requires { length text.now ≤ 67108864 }
     ensures { Gives (λ tokens. tokens) result (tokens_of text.now) }
 {
@@ -79,11 +67,11 @@ fn lexed(alloc: Global, text: &[u8]) -> Result<TokenList, LexFault>
     let mut line: u32 = 1;
     let mut table = false;
     while !rest.is_empty() {
-        let piece = match place_at(&words, table, rest) {
+        let piece = match piece_at(&words, table, rest) {
             Ok(piece) => piece,
-            Err(kind) => return Err(fault_at(kind, line)),
+            Err(kind) => return Err(LexFault::Faulty(kind, u64::from(line))),
         };
-        push_given(&mut tokens, piece, at, line)?;
+        push_piece(&mut tokens, piece, at, line)?;
         table = table_after(table, piece, rest);
         let (front, back) = rest.split_at(piece.len);
         line = lines_after(line, front);
@@ -124,7 +112,7 @@ pub fn tokens(alloc: Global, text: &[u8]) -> Result<TokenList, LexFault>
     ensures fault { IfErr result (λ fault. IsFaultOf text.now fault) }
     // Where the text has a first lexical fault, that is what is answered, unless memory runs out.
     ensures fault_only { (wrong : FaultKind) (line : ℕ) → StopsAt text.now wrong line
-        → Gives (λ tokens. tokens) result (Err (fault_at wrong line)) }
+        → Gives (λ tokens. tokens) result (Err (Faulty wrong line)) }
 {
-    lexed(alloc, text)
+    read_tokens(alloc, text)
 }

@@ -8,7 +8,7 @@ mod lexer;
 mod lists;
 mod literals;
 mod numbers;
-mod places;
+mod pieces;
 mod quoted;
 #[cfg(test)]
 mod tests;
@@ -16,7 +16,7 @@ mod token;
 mod values;
 mod words;
 
-pub use fault::LexFault;
+pub use fault::{FaultKind, LexFault};
 pub use lexer::tokens;
 pub use lists::{BitList, TokenList};
 pub use literals::{Base, Bit};

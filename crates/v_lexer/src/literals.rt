@@ -1,7 +1,7 @@
 ghost use Rattle.std.specs.Prelude.{◌≡◌, ◌≤◌, ◌<◌, ◌+◌, ◌^◌, ◌==◌, nat_le, length, IfSome};
 ghost use Rattle.std.specs.Option.{option_map};
 ghost use Rattle.std.specs.List.{list_all};
-ghost use Rattle.v_lexer.specs.Literals.{base_of, signed_len, form_view, form_with, form_at, is_x, is_z, extension_of, digit_value, is_digit_of, is_decimal_digit, is_single, digits_hold, radix, bit_at, size_holds, holds, value_holds, weighed, digit_bits, bits_of, needed};
+ghost use Rattle.v_lexer.specs.Literals.{base_of, signed_len, form_view, form_with, form_at, is_x, is_z, extension_of, digit_value, is_digit_of, is_decimal_digit, is_single, digits_hold, radix, bit_at, size_holds, holds, value_holds, bits_by_weight, digit_bits, bits_of, needed_len};
 ghost use Rattle.v_lexer.specs.declared.literals.Base.TheVariants.{Hexadecimal};
 ghost use Rattle.v_lexer.specs.Numbers.{decimal_value};
 ghost use Rattle.v_lexer.specs.Needed.{needed_by, needed_with};
@@ -244,10 +244,10 @@ fn needed_with(needed: usize, bit: Bit) -> usize
 }
 
 /// How many bits are needed up to the end of a digit of four bits, where those before it need so many.
-#[tactic(auto, unfolding(crate::specs::Literals::weighed, crate::specs::Needed::needed_by))]
+#[tactic(auto, unfolding(crate::specs::Literals::bits_by_weight, crate::specs::Needed::needed_by))]
 fn needed_by_four(needed: usize, byte: u8) -> usize
     requires { needed ≤ 32 }
-    ensures by { result ≡ needed_by needed (weighed Hexadecimal byte) }
+    ensures by { result ≡ needed_by needed (bits_by_weight Hexadecimal byte) }
     ensures bound { result ≤ needed + 4 }
 {
     let needed = needed_with(needed, bit_at(byte, 8));
@@ -257,7 +257,7 @@ fn needed_by_four(needed: usize, byte: u8) -> usize
 }
 
 /// How many bits are needed up to the end of this digit, where those before it need so many.
-#[tactic(auto, unfolding(crate::specs::Literals::digit_bits, crate::specs::Literals::weighed, crate::specs::Needed::needed_by))]
+#[tactic(auto, unfolding(crate::specs::Literals::digit_bits, crate::specs::Literals::bits_by_weight, crate::specs::Needed::needed_by))]
 fn needed_up_to(base: Base, needed: usize, byte: u8) -> usize
     requires { needed ≤ 32 }
     ensures by { result ≡ needed_by needed (digit_bits base byte) }
@@ -281,7 +281,7 @@ fn needed_up_to(base: Base, needed: usize, byte: u8) -> usize
 /// Whether 32 bits are enough for the digits.
 #[tactic(auto, using(crate::proofs::Bits::enough))]
 fn needs_32(base: Base, digits: &[u8]) -> bool
-    ensures { result ≡ nat_le (needed (bits_of base digits.now)) 32 }
+    ensures { result ≡ nat_le (needed_len (bits_of base digits.now)) 32 }
 {
     let mut so_far: usize = 0;
     let mut rest = digits;

@@ -296,7 +296,7 @@ fn show_bytes(shown: &mut String, bytes: &[u8]) -> Result<(), AllocError> {
 }
 
 /// The tokens of a row, or its fault.
-fn lexed(alloc: Global, row: &str) -> Result<String, AllocError> {
+fn show_tokens(alloc: Global, row: &str) -> Result<String, AllocError> {
     let text = bytes_of(alloc, row)?;
     let mut shown = String::new(alloc);
     if text.len() > 4096 {
@@ -370,7 +370,7 @@ fn meaning(alloc: Global, row: &str) -> Result<String, AllocError> {
 fn each_text_has_its_tokens_or_its_first_fault(rt: HostRuntime) -> Result<(), Fail> {
     for row in ROWS.lines() {
         let (text, wanted) = row.split_once(" => ").ok_or("no row")?;
-        let shown = lexed(rt.alloc(), text)?;
+        let shown = show_tokens(rt.alloc(), text)?;
         assert_eq!(rt; shown.as_str(), wanted, "of {text}");
     }
     Ok(())

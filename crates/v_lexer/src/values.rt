@@ -2,7 +2,7 @@ ghost use Rattle.std.specs.Prelude.{◌≡◌, ◌≤◌, ◌<◌, ◌+◌, ◌-
 ghost use Rattle.v_lexer.specs.declared.literals.Base.TheVariants.{Octal, Decimal, Hexadecimal};
 ghost use Rattle.v_lexer.specs.declared.literals.Bit.TheVariants.{Zero, One};
 ghost use Rattle.v_lexer.specs.Numbers.{decimal_value};
-ghost use Rattle.v_lexer.specs.Literals.{form_at, is_single, weighed, digit_bits, bits_of, filler, fit, binary, bits_in, holds, form_view};
+ghost use Rattle.v_lexer.specs.Literals.{form_at, is_single, bits_by_weight, digit_bits, bits_of, filler, fit, binary, bits_in, holds, form_view};
 ghost use Rattle.v_lexer.specs.Values.{name_text, digits_in, decimal_digits, width_of, meaning, literal_of};
 
 use crate::bytes::{after, before, blank_run, digit_run, first, number_run};
@@ -73,9 +73,9 @@ pub fn decimal_digits(alloc: Global, token: &[u8]) -> Result<DecimalDigits, Allo
 }
 
 /// Puts the bits of a digit that stands for four at the end.
-#[tactic(auto, unfolding(crate::specs::Literals::weighed))]
+#[tactic(auto, unfolding(crate::specs::Literals::bits_by_weight))]
 fn push_four(bits: &mut Vec<Bit>, byte: u8) -> Result<(), AllocError>
-    ensures { OnOk result (bits.new.items ≡ bits.old.items ++ weighed Hexadecimal byte) }
+    ensures { OnOk result (bits.new.items ≡ bits.old.items ++ bits_by_weight Hexadecimal byte) }
 {
     bits.push(bit_at(byte, 8))?;
     bits.push(bit_at(byte, 4))?;
@@ -85,9 +85,9 @@ fn push_four(bits: &mut Vec<Bit>, byte: u8) -> Result<(), AllocError>
 }
 
 /// Puts the bits of a digit that stands for three at the end.
-#[tactic(auto, unfolding(crate::specs::Literals::weighed))]
+#[tactic(auto, unfolding(crate::specs::Literals::bits_by_weight))]
 fn push_three(bits: &mut Vec<Bit>, byte: u8) -> Result<(), AllocError>
-    ensures { OnOk result (bits.new.items ≡ bits.old.items ++ weighed Octal byte) }
+    ensures { OnOk result (bits.new.items ≡ bits.old.items ++ bits_by_weight Octal byte) }
 {
     bits.push(bit_at(byte, 4))?;
     bits.push(bit_at(byte, 2))?;
@@ -96,7 +96,7 @@ fn push_three(bits: &mut Vec<Bit>, byte: u8) -> Result<(), AllocError>
 }
 
 /// Puts the bits of a digit at the end.
-#[tactic(auto, unfolding(crate::specs::Literals::weighed, crate::specs::Literals::digit_bits))]
+#[tactic(auto, unfolding(crate::specs::Literals::bits_by_weight, crate::specs::Literals::digit_bits))]
 fn push_digit(bits: &mut Vec<Bit>, base: Base, byte: u8) -> Result<(), AllocError>
     ensures { OnOk result (bits.new.items ≡ bits.old.items ++ digit_bits base byte) }
 {
@@ -140,7 +140,7 @@ fn filler(bits: &[Bit]) -> Bit
 }
 
 /// A bit so many times.
-fn repeated(alloc: Global, bit: Bit, n: usize) -> Result<Vec<Bit>, AllocError>
+fn repeat_bit(alloc: Global, bit: Bit, n: usize) -> Result<Vec<Bit>, AllocError>
     ensures { IfOk result (λ bits. bits.items ≡ replicate n bit) }
 {
     let mut bits = Vec::new(alloc);
@@ -156,7 +156,7 @@ fn fit(alloc: Global, n: usize, bits: &[Bit]) -> Result<Vec<Bit>, AllocError>
     ensures { IfOk result (λ fitted. fitted.items ≡ fit n bits.now) }
 {
     if bits.len() < n {
-        let mut fitted = repeated(alloc, filler(bits), n - bits.len())?;
+        let mut fitted = repeat_bit(alloc, filler(bits), n - bits.len())?;
         fitted.extend_from_slice(bits)?;
         Ok(fitted)
     } else {
@@ -199,7 +199,7 @@ fn decimal_bits(alloc: Global, n: u32, digits: &[u8]) -> Result<Vec<Bit>, AllocE
     ensures { IfOk result (λ bits. bits.items ≡ bits_in n Decimal digits.now) }
 {
     if is_single(digits) {
-        return repeated(alloc, bit_at(first(digits), 1), n as usize);
+        return repeat_bit(alloc, bit_at(first(digits), 1), n as usize);
     }
     match decimal_value(digits) {
         Some(value) => binary(alloc, n, value),

@@ -103,7 +103,7 @@ pub fn is_left_out_word(word: &[u8]) -> bool
 
 impl ReservedWords {
     /// All reserved words.
-    #[tactic(auto, unfolding(crate::specs::Words::grammar_words, crate::specs::Words::left_out_words, crate::specs::Words::reserved, crate::specs::Words::is_reserved))]
+    #[tactic(auto, unfolding(crate::specs::Words::grammar_words, crate::specs::Words::left_out_words, crate::specs::Words::reserved_words, crate::specs::Words::is_reserved))]
     pub fn new(alloc: Global) -> Result<ReservedWords, AllocError> {
         let mut table = NameTable::new(alloc);
         add_words(&mut table, GRAMMAR_WORDS)?;

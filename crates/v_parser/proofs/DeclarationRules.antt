@@ -25,12 +25,12 @@ use Rattle.v_tree.specs.Written.{Form, Written, written_if_there, behind_commas,
 use Rattle.v_tree.specs.Written as form
 use Rattle.v_tree.specs.Fit as fit
 use Rattle.v_tree.specs.Spelling as spell
-use Rattle.v_parser.specs.Input.{is_mark, name, separated, ◌<$>◌}
+use Rattle.v_parser.specs.Input.{is_mark, name, comma_list, ◌<$>◌}
 use Rattle.v_parser.specs.Words.{sees_net_type, sees_vector_word}
 use Rattle.v_parser.specs.Expressions.{sees_mark}
 use Rattle.v_parser.specs.Declarations.{begins_vector_range, sees_value}
 use Rattle.v_parser.specs.Declarations as read
-use Rattle.v_parser.proofs.Rules.{Rule, Follow, anything, no_comma, begins, first_form, map_rule, variant_rule, refit_rule, follow_rule, pair_rule, optional_rule, choice_rule, separated_rule}
+use Rattle.v_parser.proofs.Rules.{Rule, Follow, anything, no_comma, begins, first_form, map_rule, variant_rule, refit_rule, follow_rule, pair_rule, optional_rule, choice_rule, comma_list_rule}
 use Rattle.v_parser.proofs.TokenRules.{name_rule, skip_rule, word_rule, direction_rule, bare_net_type_rule, bare_vector_word_rule, net_type_back, vector_word_back}
 use Rattle.v_parser.proofs.TokenRules as token
 use Rattle.v_parser.proofs.ExprRules.{no_bracket, range_rule, expr_at_rule, target_at_rule, begins_target, target_begins}
@@ -89,7 +89,7 @@ port_decl_rule =
     refit_rule (map_rule (pair_rule direction_rule
     (pair_rule (optional_rule sees_net_type net_type_rule (λ x ws f. net_type_begins x ws))
     (pair_rule (optional_rule (sees_mark 91) range_rule (λ x ws f. refl))
-    (pair_rule (separated_rule name_rule (λ x f. omega arith) (λ ws. refl)) (skip_rule 59)
+    (pair_rule (comma_list_rule name_rule (λ x f. omega arith) (λ ws. refl)) (skip_rule 59)
     (λ y ws f g. refl))
     (λ y ws f g. names_begin no_range y.0 (spell.mark 59 ∷ []) ws f.0 (λ n vs. refl)))
     (λ y ws f g. may_skip no_net_type spell.range y.0 (between_commas spell.name y.1.0 ++ spell.mark 59 ∷ []) ws (λ x. refl)
@@ -102,9 +102,9 @@ port_decl_rule =
 -- ---- ranges of vectors
 
 -- a word before a range
-vector_word_named_rule : Rule read.vector_word_named spell.word_before_range fit.IsFree anything
-unfolding read.vector_word_named
-vector_word_named_rule = bare_vector_word_rule
+range_word_rule : Rule read.range_word spell.word_before_range fit.IsFree anything
+unfolding read.range_word
+range_word_rule = bare_vector_word_rule
 
 abbrev vector_range_parts : VectorRange → Option VectorWord × RangeBounds
 vector_range_parts s = (s.word, s.range)
@@ -113,7 +113,7 @@ vector_range_parts s = (s.word, s.range)
 pub vector_range_rule : Rule read.vector_range spell.vector_range fit.IsFitVectorRange anything
 unfolding read.vector_range
 vector_range_rule =
-    refit_rule (map_rule (pair_rule (optional_rule sees_vector_word vector_word_named_rule (λ x ws f. ap is_some (vector_word_back x))) range_rule (λ y ws f g. refl))
+    refit_rule (map_rule (pair_rule (optional_rule sees_vector_word range_word_rule (λ x ws f. ap is_some (vector_word_back x))) range_rule (λ y ws f g. refl))
     read.vector_range_of vector_range_parts (λ b. refl) (λ a. refl))
     (λ x f. f.1) (λ x f. (free_if_there x.word, f))
 
@@ -189,15 +189,15 @@ declared_from (kind.Valued names) f = inl (names, refl, f)
 declared_from (kind.Names names) f = inr (names, refl, f)
 
 -- names with values
-valued_rule : Rule (kind.Valued <$> separated read.valued_name) spell.declared_names AreValued no_more
+valued_rule : Rule (kind.Valued <$> comma_list read.valued_name) spell.declared_names AreValued no_more
 valued_rule =
-    follow_rule (variant_rule (separated_rule valued_name_rule (λ x f. omega arith) (λ ws. refl)) kind.Valued spell.declared_names (λ a. refl))
+    follow_rule (variant_rule (comma_list_rule valued_name_rule (λ x f. omega arith) (λ ws. refl)) kind.Valued spell.declared_names (λ a. refl))
     (λ ws h. less_bracket (no_bracket ws) (no_comma ws) (not (is_mark 61 (first_form ws))) h)
 
 -- names alone
-names_rule : Rule (kind.Names <$> separated name) spell.declared_names AreNames no_more
+names_rule : Rule (kind.Names <$> comma_list name) spell.declared_names AreNames no_more
 names_rule =
-    follow_rule (variant_rule (separated_rule name_rule (λ x f. omega arith) (λ ws. refl)) kind.Names spell.declared_names (λ a. refl))
+    follow_rule (variant_rule (comma_list_rule name_rule (λ x f. omega arith) (λ ws. refl)) kind.Names spell.declared_names (λ a. refl))
     (λ ws h. less_comma (no_bracket ws) (no_comma ws) (not (is_mark 61 (first_form ws))) h)
 
 -- names alone, or names with values
@@ -274,7 +274,7 @@ trireg_decl_rule =
     (pair_rule (optional_rule (sees_mark 40) charge_rule (λ x ws f. refl))
     (pair_rule (optional_rule begins_vector_range vector_range_rule (λ x ws f. vector_range_begins x ws))
     (pair_rule (optional_rule (sees_mark 35) delay_spec_rule (λ x ws f. refl))
-    (pair_rule (separated_rule name_rule (λ x f. omega arith) (λ ws. refl)) (skip_rule 59)
+    (pair_rule (comma_list_rule name_rule (λ x f. omega arith) (λ ws. refl)) (skip_rule 59)
     (λ y ws f g. refl))
     (λ y ws f g. names_begin no_delay y.0 (spell.mark 59 ∷ []) ws f.0 (λ n vs. refl)))
     (λ y ws f g. may_skip no_vector_range spell.delay_spec y.0 (between_commas spell.name y.1.0 ++ spell.mark 59 ∷ []) ws (λ x. refl)
@@ -336,7 +336,7 @@ assign_item_rule =
     refit_rule (map_rule (pair_rule (word_rule (codes "assign"))
     (pair_rule (optional_rule (sees_mark 40) drive_rule (λ x ws f. refl))
     (pair_rule (optional_rule (sees_mark 35) delay_spec_rule (λ x ws f. refl))
-    (pair_rule (separated_rule assign_pair_rule pair_some (λ ws. refl)) (skip_rule 59)
+    (pair_rule (comma_list_rule assign_pair_rule pair_some (λ ws. refl)) (skip_rule 59)
     (λ y ws f g. refl))
     (λ y ws f g. pairs_begin 35 y.0 (spell.mark 59 ∷ []) ws refl f.0))
     (λ y ws f g. may_skip no_paren spell.delay_spec y.0 (between_commas spell.pair y.1.0 ++ spell.mark 59 ∷ []) ws (λ x. refl)

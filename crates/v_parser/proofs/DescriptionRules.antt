@@ -16,7 +16,8 @@ use Rattle.v_tree.specs.declared.modules.Description.TheVariants as described
 use Rattle.v_tree.specs.declared.primitives.UdpDecl.{UdpDecl}
 use Rattle.v_tree.specs.declared.directives.Directive.{Directive}
 use Rattle.v_tree.specs.declared.directives.Directive.TheVariants as directives
-use Rattle.v_tree.specs.Written.{Form, form_of, form_by, based_form, slice_of, Spelled, bare, exactly, AreWritten, one_by_one}
+use Rattle.v_lexer.specs.Sound.{bytes_of}
+use Rattle.v_tree.specs.Written.{Form, form_of, form_by, based_form, Spelled, bare, exactly, AreWritten, one_by_one}
 use Rattle.v_tree.specs.Written as form
 use Rattle.v_tree.specs.Fit as fit
 use Rattle.v_tree.specs.Spelling as spell
@@ -147,7 +148,7 @@ ends_there text number [] ss j ended t = absurd ended
 ends_there text number (token ∷ []) [] j ended t = ap (λ (k : Input). k.tokens) (sym t.1)
 ends_there text number (token ∷ []) (s ∷ ss) j ended t =
     absurd (omega (arith, spells_length (ss ++ exactly (bare form.End ∷ [])) (record { text = text; tokens = []; number = number + 1 }) j t.1, length-append ss (exactly (bare form.End ∷ []))))
-ends_there text number (token ∷ other ∷ tokens) [] j ended t = absurd (ended.0 (end_is token.kind (slice_of text token) t.0.form))
+ends_there text number (token ∷ other ∷ tokens) [] j ended t = absurd (ended.0 (end_is token.kind (bytes_of text token) t.0.form))
 ends_there text number (token ∷ other ∷ tokens) (s ∷ ss) j ended t = ends_there text (number + 1) (other ∷ tokens) ss j ended.1 t.1
 
 -- what is read is written with these tokens

@@ -28,14 +28,14 @@ use Rattle.v_parser.specs.declared.directives.TimeUnit.TheVariants as units
 use Rattle.v_parser.specs.Directives.{sees_directive, cell_of, cell_table, cell_in, factor_of, factor_in, unit_of, unit_table, unit_in, power_of, scale_of, implicit_of, implicit_table, none_of, default_in}
 use Rattle.v_parser.specs.Directives as read
 use Rattle.v_parser.proofs.Rules.{Rule, anything, begins, token_rule, bare_rule, map_rule, variant_rule, refit_rule, pair_rule, choice_rule}
-use Rattle.v_parser.proofs.TokenRules.{named_is, skip_rule, directive_word_rule}
+use Rattle.v_parser.proofs.TokenRules.{word_entry_is, skip_rule, directive_word_rule}
 
 -- ---- cells
 
 -- the directive of a cell's word
 cell_named : (bytes : List ℕ) (x : CellWord) → cell_of bytes ≡ Some x → bytes ≡ words.cell_word x
 unfolding cell_of cell_table
-cell_named bytes x e = named_is words.cell_word cell_table bytes x e (refl, (refl, tt))
+cell_named bytes x e = word_entry_is words.cell_word cell_table bytes x e (refl, (refl, tt))
 
 -- each word stands for itself
 pub cell_back : (x : CellWord) → cell_of (words.cell_word x) ≡ Some x
@@ -110,7 +110,7 @@ name_of units.Femtosecond = codes "fs"
 
 unit_named : (name : List ℕ) (x : TimeUnit) → unit_of name ≡ Some x → name ≡ name_of x
 unfolding unit_of unit_table
-unit_named name x e = named_is name_of unit_table name x e (refl, (refl, (refl, (refl, (refl, (refl, tt))))))
+unit_named name x e = word_entry_is name_of unit_table name x e (refl, (refl, (refl, (refl, (refl, (refl, tt))))))
 
 unit_back : (x : TimeUnit) → unit_of (name_of x) ≡ Some x
 unfolding unit_of unit_table
@@ -256,7 +256,7 @@ timescale_rule =
 
 implicit_named : (word : List ℕ) (x : ImplicitNetType) → implicit_of word ≡ Some x → word ≡ words.implicit_net_type_word x
 unfolding implicit_of implicit_table
-implicit_named word x e = named_is words.implicit_net_type_word implicit_table word x e (refl, (refl, (refl, (refl, (refl, (refl, (refl, (refl, (refl, tt)))))))))
+implicit_named word x e = word_entry_is words.implicit_net_type_word implicit_table word x e (refl, (refl, (refl, (refl, (refl, (refl, (refl, (refl, (refl, tt)))))))))
 
 implicit_back : (x : ImplicitNetType) → implicit_of (words.implicit_net_type_word x) ≡ Some x
 unfolding implicit_of implicit_table

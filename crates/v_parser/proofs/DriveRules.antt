@@ -21,7 +21,7 @@ use Rattle.v_tree.specs.Spelling as spell
 use Rattle.v_parser.specs.Input.{is_mark, ◌<$>◌, choice}
 use Rattle.v_parser.specs.Expressions.{sees_mark}
 use Rattle.v_parser.specs.Drives as read
-use Rattle.v_parser.proofs.Rules.{Rule, Follow, anything, begins, first_form, bare_rule, map_rule, variant_rule, refit_rule, pair_rule, optional_rule, choice_rule, separated_rule}
+use Rattle.v_parser.proofs.Rules.{Rule, Follow, anything, begins, first_form, bare_rule, map_rule, variant_rule, refit_rule, pair_rule, optional_rule, choice_rule, comma_list_rule}
 use Rattle.v_parser.proofs.TokenRules.{mark_rule, skip_rule, bare_level_rule, bare_charge_rule, level_back}
 
 -- a part that has nothing to keep keeps nothing where it isn't there
@@ -81,9 +81,9 @@ pull_begins p ws = ap is_some (level_back p.first)
 -- ---- charges
 
 -- a word for a charge
-charge_named_rule : Rule read.charge_named (λ c. spell.word (words.charge_word c) ∷ []) fit.IsFree anything
-unfolding read.charge_named
-charge_named_rule = bare_charge_rule
+charge_word_rule : Rule read.charge_word (λ c. spell.word (words.charge_word c) ∷ []) fit.IsFree anything
+unfolding read.charge_word
+charge_word_rule = bare_charge_rule
 
 abbrev charge_parts : Charge → Unit {0} × (Charge × Unit {0})
 charge_parts c = (tt, (c, tt))
@@ -92,7 +92,7 @@ charge_parts c = (tt, (c, tt))
 pub charge_rule : Rule read.charge spell.charge fit.IsFree anything
 unfolding read.charge
 charge_rule =
-    refit_rule (map_rule (pair_rule (skip_rule 40) (pair_rule charge_named_rule (skip_rule 41) (λ y ws f g. refl)) (λ y ws f g. refl))
+    refit_rule (map_rule (pair_rule (skip_rule 40) (pair_rule charge_word_rule (skip_rule 41) (λ y ws f g. refl)) (λ y ws f g. refl))
     (λ (z : Unit {0} × (Charge × Unit {0})). z.1.0) charge_parts (λ b. refl) (λ a. refl))
     (λ x f. tt) (λ x f. (tt, (tt, tt)))
 
@@ -183,7 +183,7 @@ AreValues x = (z : Unit {0} × (List DelayValue × Unit {0})) × (x ≡ delays.V
 delay_values_rule : Rule read.delay_values spell.delay AreValues anything
 unfolding read.delay_values
 delay_values_rule =
-    variant_rule (pair_rule (skip_rule 40) (pair_rule (separated_rule delay_value_rule value_some (λ ws. refl)) (skip_rule 41) (λ y ws f g. refl)) (λ y ws f g. refl))
+    variant_rule (pair_rule (skip_rule 40) (pair_rule (comma_list_rule delay_value_rule value_some (λ ws. refl)) (skip_rule 41) (λ y ws f g. refl)) (λ y ws f g. refl))
     (λ (z : Unit {0} × (List DelayValue × Unit {0})). delays.Values z.1.0) spell.delay (λ a. refl)
 
 abbrev IsOneAmount : Delay → Type 0

@@ -20,7 +20,7 @@ use Rattle.v_tree.specs.declared.expressions.RangeBounds.{RangeBounds}
 use Rattle.v_tree.specs.declared.expressions.Select.{Select}
 use Rattle.v_tree.specs.declared.expressions.Pick.{Pick}
 use Rattle.v_parser.proofs.TokenRules.{name_rule, number_rule, placed_number_rule, placed_based_rule, mark_rule, skip_rule}
-use Rattle.v_parser.proofs.Rules.{Rule, Follow, anything, begins, first_form, map_rule, variant_rule, refit_rule, follow_rule, pair_rule, optional_rule, choice_rule, separated_rule}
+use Rattle.v_parser.proofs.Rules.{Rule, Follow, anything, begins, first_form, map_rule, variant_rule, refit_rule, follow_rule, pair_rule, optional_rule, choice_rule, comma_list_rule}
 
 -- no `[` is next
 abbrev pub no_bracket : Follow
@@ -199,7 +199,7 @@ expr_at_rule zero = atom_rule
 expr_at_rule (suc depth) = refit_rule
     (choice_rule (sees_mark 123)
     (variant_rule
-    (pair_rule (mark_rule 123) (pair_rule (separated_rule (expr_at_rule depth) (expr_some depth) (λ ws. refl)) (skip_rule 125) (λ y ws f follow. refl)) (λ y ws f follow. refl))
+    (pair_rule (mark_rule 123) (pair_rule (comma_list_rule (expr_at_rule depth) (expr_some depth) (λ ws. refl)) (skip_rule 125) (λ y ws f follow. refl)) (λ y ws f follow. refl))
     (λ (z : Location × (List Expr × Unit {0})). expr.Concat z.0 z.1.0) spell.expr (λ z. concat_spelled z.0 z.1.0))
     atom_rule
     (λ e ws f follow. begins_as (sees_mark 123) true e (expr.Concat f.0.0 f.0.1.0) (spell.placed_mark f.0.0 123 ∷ (between_commas spell.expr f.0.1.0 ++ spell.mark 125 ∷ [])) ws f.1 (concat_spelled f.0.0 f.0.1.0) refl)
@@ -289,7 +289,7 @@ target_at_rule zero = refit_rule (variant_rule pick_rule target.Pick spell.targe
 target_at_rule (suc depth) = refit_rule
     (choice_rule (sees_mark 123)
     (variant_rule
-    (pair_rule (mark_rule 123) (pair_rule (separated_rule (target_at_rule depth) (target_some depth) (λ ws. refl)) (skip_rule 125) (λ y ws f follow. refl)) (λ y ws f follow. refl))
+    (pair_rule (mark_rule 123) (pair_rule (comma_list_rule (target_at_rule depth) (target_some depth) (λ ws. refl)) (skip_rule 125) (λ y ws f follow. refl)) (λ y ws f follow. refl))
     (λ (z : Location × (List Target × Unit {0})). target.Concat z.0 z.1.0) spell.target (λ z. target_concat_spelled z.0 z.1.0))
     (variant_rule pick_rule target.Pick spell.target target_pick_spelled)
     (λ t ws f follow. target_begins_as (sees_mark 123) true t (target.Concat f.0.0 f.0.1.0) (spell.placed_mark f.0.0 123 ∷ (between_commas spell.target f.0.1.0 ++ spell.mark 125 ∷ [])) ws f.1 (target_concat_spelled f.0.0 f.0.1.0) refl)

@@ -31,7 +31,7 @@ use Rattle.v_parser.specs.Words.{sees_level}
 use Rattle.v_parser.specs.Drives.{sees_drive}
 use Rattle.v_parser.specs.Gates as read
 use Rattle.v_parser.specs.Gates.{terms, terms_of, gates_of, logic_item, switch_item, tran_item, pull_item, connection, connection_of, connections, inst, inst_of, instance, instance_of}
-use Rattle.v_parser.proofs.Rules.{Rule, Follow, anything, begins, first_form, map_rule, variant_rule, refit_rule, follow_rule, pair_rule, optional_rule, choice_rule, separated_any_rule}
+use Rattle.v_parser.proofs.Rules.{Rule, Follow, anything, begins, first_form, map_rule, variant_rule, refit_rule, follow_rule, pair_rule, optional_rule, choice_rule, comma_list_any_rule}
 use Rattle.v_parser.proofs.TokenRules.{name_rule, mark_rule, skip_rule, logic_rule, switch_rule, tran_rule, pull_rule}
 use Rattle.v_parser.proofs.ExprRules.{begins_expr, expr_begins}
 use Rattle.v_parser.proofs.DriveRules.{drive_rule, pull_levels_rule, delay_spec_rule, drive_begins, pull_begins}
@@ -91,7 +91,7 @@ unfolding terms
 terms_rule = refit_rule
     (map_rule
     (pair_rule (optional_rule sees_name name_rule (λ x ws f. refl))
-    (pair_rule (mark_rule 40) (pair_rule (separated_any_rule expr_rule (λ ws. refl)) (skip_rule 41) (λ y ws f follow. refl)) (λ y ws f follow. refl))
+    (pair_rule (mark_rule 40) (pair_rule (comma_list_any_rule expr_rule (λ ws. refl)) (skip_rule 41) (λ y ws f follow. refl)) (λ y ws f follow. refl))
     (λ y ws f follow. refl))
     terms_of (λ (t : Terms). (t.name, (t.paren, (t.terminals, tt)))) (λ b. refl) (λ a. refl))
     (λ t f. record { name = f.0; terminals = f.1.1.0 }) (λ t f. (f.name, (tt, (f.terminals, tt))))
@@ -264,7 +264,7 @@ logic_item_rule = refit_rule
     (pair_rule logic_rule
     (pair_rule (optional_rule sees_drive drive_rule (λ d ws f. drive_begins d ws))
     (pair_rule (optional_rule (sees_mark 35) delay_spec_rule (λ d ws f. refl))
-    (pair_rule (separated_any_rule terms_rule (λ ws. refl)) (skip_rule 59) (λ y ws f follow. refl))
+    (pair_rule (comma_list_any_rule terms_rule (λ ws. refl)) (skip_rule 59) (λ y ws f follow. refl))
     (λ y ws f follow. ap not (gates_delayless y.0 ws f.0)))
     (λ y ws f follow. ap not (delayed_driveless y.0 y.1.0 ws f.1.0)))
     (λ y ws f follow. refl))
@@ -281,7 +281,7 @@ switch_item_rule = refit_rule
     (variant_rule
     (pair_rule switch_rule
     (pair_rule (optional_rule (sees_mark 35) delay_spec_rule (λ d ws f. refl))
-    (pair_rule (separated_any_rule terms_rule (λ ws. refl)) (skip_rule 59) (λ y ws f follow. refl))
+    (pair_rule (comma_list_any_rule terms_rule (λ ws. refl)) (skip_rule 59) (λ y ws f follow. refl))
     (λ y ws f follow. ap not (gates_delayless y.0 ws f.0)))
     (λ y ws f follow. refl))
     switch_of spell.gate_item (λ z. refl))
@@ -293,7 +293,7 @@ pub tran_item_rule : Rule read.tran_item spell.gate_item IsTran anything
 unfolding tran_item
 tran_item_rule = refit_rule
     (variant_rule
-    (pair_rule tran_rule (pair_rule (separated_any_rule terms_rule (λ ws. refl)) (skip_rule 59) (λ y ws f follow. refl)) (λ y ws f follow. refl))
+    (pair_rule tran_rule (pair_rule (comma_list_any_rule terms_rule (λ ws. refl)) (skip_rule 59) (λ y ws f follow. refl)) (λ y ws f follow. refl))
     tran_of spell.gate_item (λ z. refl))
     (λ g f. subst IsTran (sym f.1) (record { kind = tt; gates = f.2.1.0 }, tt))
     (λ g f. tran_by g.location g.kind g.gates f.0.gates f.1)
@@ -305,7 +305,7 @@ pull_item_rule = refit_rule
     (variant_rule
     (pair_rule pull_rule
     (pair_rule (optional_rule sees_drive pull_levels_rule (λ d ws f. pull_begins d ws))
-    (pair_rule (separated_any_rule terms_rule (λ ws. refl)) (skip_rule 59) (λ y ws f follow. refl))
+    (pair_rule (comma_list_any_rule terms_rule (λ ws. refl)) (skip_rule 59) (λ y ws f follow. refl))
     (λ y ws f follow. ap not (gates_driveless y.0 ws f.0)))
     (λ y ws f follow. refl))
     pull_of spell.gate_item (λ z. refl))
@@ -371,9 +371,9 @@ unfolding connections
 connections_rule = refit_rule
     (follow_rule
     (choice_rule (sees_mark 46)
-    (follow_rule {may_follow' = closes} (variant_rule (separated_any_rule connection_rule (λ ws. refl)) ByName spell.connections (λ a. refl))
+    (follow_rule {may_follow' = closes} (variant_rule (comma_list_any_rule connection_rule (λ ws. refl)) ByName spell.connections (λ a. refl))
     (λ ws follow. ap (λ (f : Form). not (is_mark 44 f)) (closes_is (first_form ws) follow)))
-    (follow_rule {may_follow' = closes} (variant_rule (separated_any_rule (optional_rule read.begins_expr expr_rule (λ e ws f. expr_begins 64 e ws f)) (λ ws. refl)) ByOrder spell.connections (λ a. refl))
+    (follow_rule {may_follow' = closes} (variant_rule (comma_list_any_rule (optional_rule read.begins_expr expr_rule (λ e ws f. expr_begins 64 e ws f)) (λ ws. refl)) ByOrder spell.connections (λ a. refl))
     (λ ws follow. ap (λ (f : Form). (not (is_mark 91 f) && not (begins_expr f)) && not (is_mark 44 f)) (closes_is (first_form ws) follow)))
     (λ c ws f follow. ap (λ (d : Connections). begins (sees_mark 46) (spell.connections d ++ ws)) f.1 ∙ names_dotted f.0 ws f.2)
     (λ c ws f follow. ap (λ (d : Connections). begins (sees_mark 46) (spell.connections d ++ ws)) f.1 ∙ places_dotless f.0 ws f.2 follow))
@@ -439,7 +439,7 @@ instance_rule = refit_rule
     (pair_rule name_rule
     (pair_rule (optional_rule sees_drive drive_rule (λ d ws f. drive_begins d ws))
     (pair_rule (optional_rule (sees_mark 35) delay_spec_rule (λ d ws f. refl))
-    (pair_rule (separated_any_rule inst_rule (λ ws. refl)) (skip_rule 59) (λ y ws f follow. refl))
+    (pair_rule (comma_list_any_rule inst_rule (λ ws. refl)) (skip_rule 59) (λ y ws f follow. refl))
     (λ y ws f follow. ap not (insts_delayless y.0 ws f.0)))
     (λ y ws f follow. ap not (delayed_insts_driveless y.0 y.1.0 ws f.1.0)))
     (λ y ws f follow. refl))

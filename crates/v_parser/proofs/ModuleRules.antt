@@ -35,7 +35,7 @@ use Rattle.v_parser.specs.Words.{sees_net_type}
 use Rattle.v_parser.specs.Gates.{instance}
 use Rattle.v_parser.specs.Modules.{sees_mark_second, sees_name_second, ends_module}
 use Rattle.v_parser.specs.Modules as read
-use Rattle.v_parser.proofs.Rules.{Rule, Follow, anything, begins, first_form, Takes, ok_is, ok_of, map_rule, variant_rule, refit_rule, follow_rule, pair_rule, optional_rule, choice_rule, commas_rule, separated_rule}
+use Rattle.v_parser.proofs.Rules.{Rule, Follow, anything, begins, first_form, Takes, ok_is, ok_of, map_rule, variant_rule, refit_rule, follow_rule, pair_rule, optional_rule, choice_rule, commas_rule, comma_list_rule}
 use Rattle.v_parser.proofs.SpelledRules.{SpelledRule, begins_with, whatever, exactly_rule, exactly_by_rule, spelled_map_rule, spelled_variant_rule, spelled_refit_rule, respelled_rule, spelled_pair_rule, spelled_choice_rule, spelled_many_rule}
 use Rattle.v_parser.proofs.TokenRules.{name_rule, skip_rule, skip_word_rule, direction_rule, opening_rule}
 use Rattle.v_parser.proofs.ExprRules.{range_rule}
@@ -216,9 +216,9 @@ assign_from (item.Gates g) f = absurd (omega (arith, f.1, gate_number_within g.k
 assign_from x f = absurd (omega (arith, f.1))
 
 -- assignments or what comes later
-assigned_rule : SpelledRule read.assigned spell.module_item (IsItemFrom 4) whatever
-unfolding read.assigned
-assigned_rule = item_choice 4 (omega arith) (kind_rule 4 (exactly_rule assign_item_rule) item.Assign (λ a. refl) (λ a f. (f, refl)) assign_from) gates_or_later_rule
+assigns_rule : SpelledRule read.assigns spell.module_item (IsItemFrom 4) whatever
+unfolding read.assigns
+assigns_rule = item_choice 4 (omega arith) (kind_rule 4 (exactly_rule assign_item_rule) item.Assign (λ a. refl) (λ a f. (f, refl)) assign_from) gates_or_later_rule
 
 -- an item with the number of trireg nets is trireg nets
 trireg_from : (x : Item) → IsItem 3 x → (d : TriregDecl) × (x ≡ item.Trireg d) × fit.IsFitTriregDecl d
@@ -227,9 +227,9 @@ trireg_from (item.Gates g) f = absurd (omega (arith, f.1, gate_number_within g.k
 trireg_from x f = absurd (omega (arith, f.1))
 
 -- trireg nets or what comes later
-charged_rule : SpelledRule read.charged spell.module_item (IsItemFrom 3) whatever
-unfolding read.charged
-charged_rule = item_choice 3 (omega arith) (kind_rule 3 (exactly_rule trireg_decl_rule) item.Trireg (λ a. refl) (λ a f. (f, refl)) trireg_from) assigned_rule
+triregs_rule : SpelledRule read.triregs spell.module_item (IsItemFrom 3) whatever
+unfolding read.triregs
+triregs_rule = item_choice 3 (omega arith) (kind_rule 3 (exactly_rule trireg_decl_rule) item.Trireg (λ a. refl) (λ a f. (f, refl)) trireg_from) assigns_rule
 
 -- an item with the number of nets is nets
 nets_from : (x : Item) → IsItem 2 x → (d : NetDecl) × (x ≡ item.Nets d) × fit.IsFitNetDecl d
@@ -240,7 +240,7 @@ nets_from x f = absurd (omega (arith, f.1))
 -- nets or what comes later
 nets_rule : SpelledRule read.nets spell.module_item (IsItemFrom 2) whatever
 unfolding read.nets
-nets_rule = item_choice 2 (omega arith) (kind_rule 2 (exactly_rule net_decl_rule) item.Nets (λ a. refl) (λ a f. (f, refl)) nets_from) charged_rule
+nets_rule = item_choice 2 (omega arith) (kind_rule 2 (exactly_rule net_decl_rule) item.Nets (λ a. refl) (λ a f. (f, refl)) nets_from) triregs_rule
 
 -- an item with the number of ports is ports
 ports_from : (x : Item) → IsItem 1 x → (d : PortDecl) × (x ≡ item.Ports d) × fit.IsFitPortDecl d
@@ -347,7 +347,7 @@ names_from x f = absurd f
 named_ports_rule : Rule read.named_ports spell.header_ports AreNames anything
 unfolding read.named_ports
 named_ports_rule =
-    refit_rule (variant_rule (pair_rule (skip_rule 40) (pair_rule (separated_rule name_rule (λ x f. omega arith) (λ ws. refl)) (skip_rule 41) (λ y ws f g. refl)) (λ y ws f g. refl))
+    refit_rule (variant_rule (pair_rule (skip_rule 40) (pair_rule (comma_list_rule name_rule (λ x f. omega arith) (λ ws. refl)) (skip_rule 41) (λ y ws f g. refl)) (λ y ws f g. refl))
     make_names spell.header_ports (λ a. refl))
     (λ x f. subst AreNames (sym f.1) f.2.1.0) names_from
 

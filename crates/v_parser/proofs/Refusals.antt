@@ -5,11 +5,12 @@ use Rattle.v_lexer.specs.declared.token.Token.{Token}
 use Rattle.v_lexer.specs.declared.token.TokenKind.TheVariants.{End}
 use Rattle.v_lexer.specs.Reading.{AreTokensOf}
 use Rattle.v_lexer.proofs.Sound.{are_sound}
-use Rattle.v_tree.specs.Written.{Form, form_of, form_by, slice_of}
+use Rattle.v_lexer.specs.Sound.{bytes_of}
+use Rattle.v_tree.specs.Written.{Form, form_of, form_by}
 use Rattle.v_tree.specs.Written as form
 use Rattle.v_parser.specs.declared.fault.ParseFault.{ParseFault}
 use Rattle.v_parser.specs.declared.fault.ParseFault.TheVariants.{Unsupported, Syntax, Memory}
-use Rattle.v_parser.specs.Input.{Input, Outcome, Reader, front, front_in, next, next_in, is_left_out, refusal, and_then, ◌>>=◌, pure, ◌<$>◌, ◌&◌, refuse, token_by, token, where_true, is_mark, is_word, is_finish, name_in, number_in, based_in, optional, choice, commas_from, commas, separated, many_from, many_after, many, some, here}
+use Rattle.v_parser.specs.Input.{Input, Outcome, Reader, front, front_in, next, next_in, is_left_out, refusal, and_then, ◌>>=◌, pure, ◌<$>◌, ◌&◌, refuse, token_by, token, where_true, is_mark, is_word, is_finish, name_in, number_in, based_in, optional, choice, commas_from, commas, comma_list, many_from, many_after, many, some, here}
 use Rattle.v_parser.specs.Input as input
 use Rattle.v_parser.specs.Words as words
 use Rattle.v_parser.specs.Expressions as read
@@ -65,9 +66,9 @@ refused_in : (text : List ℕ) (all : List Token) (number : ℕ) (tokens : List 
     → Refuses text all (refusal (record { text = text; tokens = tokens; number = number }))
 unfolding refusal
 refused_in text all number [] is ended = absurd ended
-refused_in text all number (token ∷ tokens) is ended = by (is_left_out token.kind (slice_of text token)) refl
+refused_in text all number (token ∷ tokens) is ended = by (is_left_out token.kind (bytes_of text token)) refl
   where
-    by : (b : Bool) → is_left_out token.kind (slice_of text token) ≡ b → Refuses text all (if b then Unsupported number else Syntax number)
+    by : (b : Bool) → is_left_out token.kind (bytes_of text token) ≡ b → Refuses text all (if b then Unsupported number else Syntax number)
     by true e = (λ memory. cc, (token, there all number token tokens is, e))
     by false e = (λ memory. cc, (token, there all number token tokens is, e))
 
@@ -78,7 +79,7 @@ refused text all i within = subst (λ (t : List ℕ). Refuses t all (refusal i))
 -- a token at the end of the text says so
 end_form : (text : List ℕ) (token : Token) → token.kind ≡ End → form_of text token ≡ form.End
 unfolding form_of
-end_form text token is = ap (λ k. form_by k (slice_of text token)) is
+end_form text token is = ap (λ k. form_by k (bytes_of text token)) is
 
 -- what is left after the first token is a last part of the list, where that token isn't the end of the text
 next_within : (text : List ℕ) (all : List Token) (number : ℕ) (tokens : List Token) → drop number all ≡ tokens → AreEnded tokens → front_in text tokens ≢ form.End → IsWithin text all (next_in text number tokens)
@@ -171,9 +172,9 @@ unfolding commas
 commas_safe rule found = record { safe = λ text all i within. (commas_from_safe rule (length i.tokens) found).safe text all i within }
 
 -- one part or several, with commas between
-separated_safe : {A : Type 0} {p : Reader A} → Safe p → Safe (separated p)
-unfolding separated
-separated_safe {A} {p} rule = bind_safe (λ x. commas p (x ∷ [])) rule (λ x. commas_safe rule (x ∷ []))
+comma_list_safe : {A : Type 0} {p : Reader A} → Safe p → Safe (comma_list p)
+unfolding comma_list
+comma_list_safe {A} {p} rule = bind_safe (λ x. commas p (x ∷ [])) rule (λ x. commas_safe rule (x ∷ []))
 
 -- parts up to a token that ends them, in so many turns at most
 many_from_safe : {A : Type 0} {p : Reader A} (stops : Form → Bool) → Safe p → (n : ℕ) (found : List A) → Safe (many_from stops p n found)
@@ -280,13 +281,13 @@ atom_safe = choice_safe _ (map_safe _ pick_safe) (choice_safe _ (map_safe _ plac
 expr_at_safe : (depth : ℕ) → Safe (read.expr_at depth)
 unfolding read.expr_at
 expr_at_safe zero = atom_safe
-expr_at_safe (suc depth) = choice_safe _ (map_safe _ (pair_safe (mark_safe 123) (pair_safe (separated_safe (expr_at_safe depth)) (skip_safe 125)))) atom_safe
+expr_at_safe (suc depth) = choice_safe _ (map_safe _ (pair_safe (mark_safe 123) (pair_safe (comma_list_safe (expr_at_safe depth)) (skip_safe 125)))) atom_safe
 
 -- a target with concatenations so deep at most
 target_at_safe : (depth : ℕ) → Safe (read.target_at depth)
 unfolding read.target_at
 target_at_safe zero = map_safe _ pick_safe
-target_at_safe (suc depth) = choice_safe _ (map_safe _ (pair_safe (mark_safe 123) (pair_safe (separated_safe (target_at_safe depth)) (skip_safe 125)))) (map_safe _ pick_safe)
+target_at_safe (suc depth) = choice_safe _ (map_safe _ (pair_safe (mark_safe 123) (pair_safe (comma_list_safe (target_at_safe depth)) (skip_safe 125)))) (map_safe _ pick_safe)
 
 -- an expression of the grammar
 expr_safe : Safe declare.expr
@@ -321,14 +322,14 @@ unfolding drives.pull_levels
 pull_levels_safe = map_safe _ (pair_safe (mark_safe 40) (pair_safe level_safe (pair_safe (optional_safe _ second_level_safe) (skip_safe 41))))
 
 -- a word for a charge
-charge_named_safe : Safe drives.charge_named
-unfolding drives.charge_named
-charge_named_safe = map_safe _ (token_safe words.charge_in refl)
+charge_word_safe : Safe drives.charge_word
+unfolding drives.charge_word
+charge_word_safe = map_safe _ (token_safe words.charge_in refl)
 
 -- `( charge )`
 charge_safe : Safe drives.charge
 unfolding drives.charge
-charge_safe = map_safe _ (pair_safe (skip_safe 40) (pair_safe charge_named_safe (skip_safe 41)))
+charge_safe = map_safe _ (pair_safe (skip_safe 40) (pair_safe charge_word_safe (skip_safe 41)))
 
 -- a number or a decimal
 amount_safe : Safe drives.amount
@@ -348,7 +349,7 @@ delay_value_safe = map_safe _ (pair_safe amount_safe (optional_safe _ other_valu
 -- `( value , .. )`
 delay_values_safe : Safe drives.delay_values
 unfolding drives.delay_values
-delay_values_safe = map_safe _ (pair_safe (skip_safe 40) (pair_safe (separated_safe delay_value_safe) (skip_safe 41)))
+delay_values_safe = map_safe _ (pair_safe (skip_safe 40) (pair_safe (comma_list_safe delay_value_safe) (skip_safe 41)))
 
 -- `# amount` or `# ( value , .. )`
 delay_spec_safe : Safe drives.delay_spec
@@ -363,20 +364,20 @@ unfolding declare.net_type
 net_type_safe = map_safe _ (token_safe words.net_type_in refl)
 
 -- a word before a range
-vector_word_named_safe : Safe declare.vector_word_named
-unfolding declare.vector_word_named
-vector_word_named_safe = map_safe _ (token_safe words.vector_word_in refl)
+range_word_safe : Safe declare.range_word
+unfolding declare.range_word
+range_word_safe = map_safe _ (token_safe words.vector_word_in refl)
 
 -- `dir [ nettype ] [ range ] Name , .. ;`
 port_decl_safe : Safe declare.port_decl
 unfolding declare.port_decl
 port_decl_safe = map_safe _ (pair_safe (token_safe words.direction_in refl)
-    (pair_safe (optional_safe _ net_type_safe) (pair_safe (optional_safe _ range_safe) (pair_safe (separated_safe name_safe) (skip_safe 59)))))
+    (pair_safe (optional_safe _ net_type_safe) (pair_safe (optional_safe _ range_safe) (pair_safe (comma_list_safe name_safe) (skip_safe 59)))))
 
 -- a range, with a word before it or without one
 vector_range_safe : Safe declare.vector_range
 unfolding declare.vector_range
-vector_range_safe = map_safe _ (pair_safe (optional_safe _ vector_word_named_safe) range_safe)
+vector_range_safe = map_safe _ (pair_safe (optional_safe _ range_word_safe) range_safe)
 
 -- `Name = expr`
 valued_name_safe : Safe declare.valued_name
@@ -386,7 +387,7 @@ valued_name_safe = map_safe _ (pair_safe name_safe (pair_safe (skip_safe 61) exp
 -- names alone, or names with values
 declared_safe : Safe declare.declared_names
 unfolding declare.declared_names
-declared_safe = choice_safe _ (map_safe _ (separated_safe valued_name_safe)) (map_safe _ (separated_safe name_safe))
+declared_safe = choice_safe _ (map_safe _ (comma_list_safe valued_name_safe)) (map_safe _ (comma_list_safe name_safe))
 
 -- `nettype [ drive ] [ vector_range ] [ delay ] declared_names ;`
 net_decl_safe : Safe declare.net_decl
@@ -398,46 +399,46 @@ net_decl_safe = map_safe _ (pair_safe (token_safe words.net_type_in refl)
 trireg_decl_safe : Safe declare.trireg_decl
 unfolding declare.trireg_decl
 trireg_decl_safe = map_safe _ (pair_safe (word_safe (codes "trireg"))
-    (pair_safe (optional_safe _ charge_safe) (pair_safe (optional_safe _ vector_range_safe) (pair_safe (optional_safe _ delay_spec_safe) (pair_safe (separated_safe name_safe) (skip_safe 59))))))
+    (pair_safe (optional_safe _ charge_safe) (pair_safe (optional_safe _ vector_range_safe) (pair_safe (optional_safe _ delay_spec_safe) (pair_safe (comma_list_safe name_safe) (skip_safe 59))))))
 
 -- `target = expr`
-assigned_pair_safe : Safe declare.pair
+assign_pair_safe : Safe declare.pair
 unfolding declare.pair
-assigned_pair_safe = map_safe _ (pair_safe target_safe (pair_safe (skip_safe 61) expr_safe))
+assign_pair_safe = map_safe _ (pair_safe target_safe (pair_safe (skip_safe 61) expr_safe))
 
 -- `assign [ drive ] [ delay ] pair , .. ;`
 assign_item_safe : Safe declare.assign_item
 unfolding declare.assign_item
 assign_item_safe = map_safe _ (pair_safe (word_safe (codes "assign"))
-    (pair_safe (optional_safe _ drive_safe) (pair_safe (optional_safe _ delay_spec_safe) (pair_safe (separated_safe assigned_pair_safe) (skip_safe 59)))))
+    (pair_safe (optional_safe _ drive_safe) (pair_safe (optional_safe _ delay_spec_safe) (pair_safe (comma_list_safe assign_pair_safe) (skip_safe 59)))))
 
 -- ---- gates, switches and instances
 
 -- `[ Name ] ( expr , .. )`
 terms_safe : Safe gate.terms
 unfolding gate.terms
-terms_safe = map_safe _ (pair_safe (optional_safe _ name_safe) (pair_safe (mark_safe 40) (pair_safe (separated_safe expr_safe) (skip_safe 41))))
+terms_safe = map_safe _ (pair_safe (optional_safe _ name_safe) (pair_safe (mark_safe 40) (pair_safe (comma_list_safe expr_safe) (skip_safe 41))))
 
 -- `logic [ drive ] [ delay ] terms , .. ;`
 logic_item_safe : Safe gate.logic_item
 unfolding gate.logic_item
 logic_item_safe = map_safe _ (pair_safe (token_safe words.logic_in refl)
-    (pair_safe (optional_safe _ drive_safe) (pair_safe (optional_safe _ delay_spec_safe) (pair_safe (separated_safe terms_safe) (skip_safe 59)))))
+    (pair_safe (optional_safe _ drive_safe) (pair_safe (optional_safe _ delay_spec_safe) (pair_safe (comma_list_safe terms_safe) (skip_safe 59)))))
 
 -- `switch [ delay ] terms , .. ;`
 switch_item_safe : Safe gate.switch_item
 unfolding gate.switch_item
-switch_item_safe = map_safe _ (pair_safe (token_safe words.switch_in refl) (pair_safe (optional_safe _ delay_spec_safe) (pair_safe (separated_safe terms_safe) (skip_safe 59))))
+switch_item_safe = map_safe _ (pair_safe (token_safe words.switch_in refl) (pair_safe (optional_safe _ delay_spec_safe) (pair_safe (comma_list_safe terms_safe) (skip_safe 59))))
 
 -- `tran terms , .. ;`
 tran_item_safe : Safe gate.tran_item
 unfolding gate.tran_item
-tran_item_safe = map_safe _ (pair_safe (token_safe words.tran_in refl) (pair_safe (separated_safe terms_safe) (skip_safe 59)))
+tran_item_safe = map_safe _ (pair_safe (token_safe words.tran_in refl) (pair_safe (comma_list_safe terms_safe) (skip_safe 59)))
 
 -- `pull [ ( level [ , level ] ) ] terms , .. ;`
 pull_item_safe : Safe gate.pull_item
 unfolding gate.pull_item
-pull_item_safe = map_safe _ (pair_safe (token_safe words.pull_in refl) (pair_safe (optional_safe _ pull_levels_safe) (pair_safe (separated_safe terms_safe) (skip_safe 59))))
+pull_item_safe = map_safe _ (pair_safe (token_safe words.pull_in refl) (pair_safe (optional_safe _ pull_levels_safe) (pair_safe (comma_list_safe terms_safe) (skip_safe 59))))
 
 -- `. Name ( [ expr ] )`
 connection_safe : Safe gate.connection
@@ -447,7 +448,7 @@ connection_safe = map_safe _ (pair_safe (mark_safe 46) (pair_safe name_safe (pai
 -- connections by name, or by order
 connections_safe : Safe gate.connections
 unfolding gate.connections
-connections_safe = choice_safe _ (map_safe _ (separated_safe connection_safe)) (map_safe _ (separated_safe (optional_safe _ expr_safe)))
+connections_safe = choice_safe _ (map_safe _ (comma_list_safe connection_safe)) (map_safe _ (comma_list_safe (optional_safe _ expr_safe)))
 
 -- `[ Name ] ( connections )`
 inst_safe : Safe gate.inst
@@ -458,7 +459,7 @@ inst_safe = map_safe _ (pair_safe (optional_safe _ name_safe) (pair_safe (mark_s
 instance_safe : Safe gate.instance
 unfolding gate.instance
 instance_safe = map_safe _ (pair_safe name_safe
-    (pair_safe (optional_safe _ drive_safe) (pair_safe (optional_safe _ delay_spec_safe) (pair_safe (separated_safe inst_safe) (skip_safe 59)))))
+    (pair_safe (optional_safe _ drive_safe) (pair_safe (optional_safe _ delay_spec_safe) (pair_safe (comma_list_safe inst_safe) (skip_safe 59)))))
 
 -- ---- directives and blocks
 
@@ -493,27 +494,27 @@ unfolding directive.directive directive.defaults directive.resets
 directive_safe = choice_safe _ (map_safe _ timescale_safe) (choice_safe _ (map_safe _ default_nettype_safe) (choice_safe _ (map_safe _ (directive_word_safe (codes "`resetall"))) (map_safe _ cell_safe)))
 
 -- the tokens inside a block, in so many turns at most
-passed_from_safe : (n count : ℕ) → Safe (block.passed_from n count)
-unfolding block.passed_from
-passed_from_safe zero count = pure_safe count
-passed_from_safe (suc n) count = record { safe = λ text all i within. by (passed_from_safe n (count + 1)) text all i within (block.ends_block (front i)) refl }
+block_length_from_safe : (n count : ℕ) → Safe (block.block_length_from n count)
+unfolding block.block_length_from
+block_length_from_safe zero count = pure_safe count
+block_length_from_safe (suc n) count = record { safe = λ text all i within. by (block_length_from_safe n (count + 1)) text all i within (block.ends_block (front i)) refl }
   where
-    by : Safe (block.passed_from n (count + 1)) → (text : List ℕ) (all : List Token) (i : Input) → IsWithin text all i → (ended : Bool) → block.ends_block (front i) ≡ ended
-        → IsSafe text all (if ended then Ok (count, i) else block.passed_from n (count + 1) (next i))
+    by : Safe (block.block_length_from n (count + 1)) → (text : List ℕ) (all : List Token) (i : Input) → IsWithin text all i → (ended : Bool) → block.ends_block (front i) ≡ ended
+        → IsSafe text all (if ended then Ok (count, i) else block.block_length_from n (count + 1) (next i))
     by rest text all i within true is = within
     by rest text all i within false is =
         let more : front i ≢ form.End = λ (end : front i ≡ form.End). (let same = ap block.ends_block end in cc) in
         rest.safe text all (next i) (goes_on text all i within more)
 
 -- the tokens inside a block
-passed_safe : Safe block.passed
-unfolding block.passed
-passed_safe = record { safe = λ text all i within. (passed_from_safe (length i.tokens) 0).safe text all i within }
+block_length_safe : Safe block.block_length
+unfolding block.block_length
+block_length_safe = record { safe = λ text all i within. (block_length_from_safe (length i.tokens) 0).safe text all i within }
 
 -- a block that is passed over
 specify_block_safe : Safe block.specify_block
 unfolding block.specify_block
-specify_block_safe = map_safe _ (pair_safe (word_safe (codes "specify")) (pair_safe passed_safe (skip_word_safe (codes "endspecify"))))
+specify_block_safe = map_safe _ (pair_safe (word_safe (codes "specify")) (pair_safe block_length_safe (skip_word_safe (codes "endspecify"))))
 
 -- ---- modules
 
@@ -548,19 +549,19 @@ unfolding modules.gates
 gates_safe = choice_safe _ (map_safe _ logic_item_safe) switches_safe
 
 -- assignments, gates or instances
-assigned_safe : Safe modules.assigned
-unfolding modules.assigned
-assigned_safe = choice_safe _ (map_safe _ assign_item_safe) gates_safe
+assigns_safe : Safe modules.assigns
+unfolding modules.assigns
+assigns_safe = choice_safe _ (map_safe _ assign_item_safe) gates_safe
 
 -- trireg nets or what comes later
-charged_safe : Safe modules.charged
-unfolding modules.charged
-charged_safe = choice_safe _ (map_safe _ trireg_decl_safe) assigned_safe
+triregs_safe : Safe modules.triregs
+unfolding modules.triregs
+triregs_safe = choice_safe _ (map_safe _ trireg_decl_safe) assigns_safe
 
 -- nets or what comes later
 nets_safe : Safe modules.nets
 unfolding modules.nets
-nets_safe = choice_safe _ (map_safe _ net_decl_safe) charged_safe
+nets_safe = choice_safe _ (map_safe _ net_decl_safe) triregs_safe
 
 -- an item of a module
 module_item_safe : Safe modules.module_item
@@ -585,7 +586,7 @@ empty_ports_safe = map_safe _ (pair_safe (skip_safe 40) (skip_safe 41))
 -- `( Name , .. )`
 named_ports_safe : Safe modules.named_ports
 unfolding modules.named_ports
-named_ports_safe = map_safe _ (pair_safe (skip_safe 40) (pair_safe (separated_safe name_safe) (skip_safe 41)))
+named_ports_safe = map_safe _ (pair_safe (skip_safe 40) (pair_safe (comma_list_safe name_safe) (skip_safe 41)))
 
 -- `( port , .. )`
 ansi_ports_safe : Safe modules.ansi_ports
@@ -678,7 +679,7 @@ udp_input_safe = map_safe _ (pair_safe (flag_safe (codes "input")) name_safe)
 -- `( Name , .. )`
 named_header_safe : Safe udp.named_header
 unfolding udp.named_header
-named_header_safe = map_safe _ (pair_safe (skip_safe 40) (pair_safe (separated_safe name_safe) (skip_safe 41)))
+named_header_safe = map_safe _ (pair_safe (skip_safe 40) (pair_safe (comma_list_safe name_safe) (skip_safe 41)))
 
 -- a header that begins with its output
 declared_header_safe : Safe udp.declared_header
@@ -699,7 +700,7 @@ output_item_safe = map_safe _ (pair_safe (word_safe (codes "output")) (pair_safe
 -- `input Name , .. ;`
 input_item_safe : Safe udp.input_item
 unfolding udp.input_item
-input_item_safe = map_safe _ (pair_safe (word_safe (codes "input")) (pair_safe (separated_safe name_safe) (skip_safe 59)))
+input_item_safe = map_safe _ (pair_safe (word_safe (codes "input")) (pair_safe (comma_list_safe name_safe) (skip_safe 59)))
 
 -- `reg Name ;`
 reg_item_safe : Safe udp.reg_item

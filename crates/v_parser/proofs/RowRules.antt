@@ -16,25 +16,25 @@ use Rattle.v_tree.specs.Words.{base_symbol, sym_symbol}
 use Rattle.v_tree.specs.Fit as fit
 use Rattle.v_tree.specs.Spelling as spell
 use Rattle.v_parser.specs.Input.{is_symbol, symbol_in}
-use Rattle.v_parser.specs.Primitives.{coded, meant, sees_symbol, ends_table}
+use Rattle.v_parser.specs.Primitives.{byte_entry, symbol_meaning, sees_symbol, ends_table}
 use Rattle.v_parser.specs.Primitives as read
 use Rattle.v_parser.proofs.Rules.{Rule, Follow, anything, begins, first_form, IsOpen, bare_rule, map_rule, variant_rule, refit_rule, respell_rule, pair_rule, optional_rule, choice_rule, some_rule, here_rule}
 use Rattle.v_parser.proofs.TokenRules.{skip_symbol_rule}
 
 -- what a table gives for a symbol is as each entry is
-coded_is : {A : Type 0} (Is : ℕ → A → Type 0) (table : List (ℕ × A)) (byte : ℕ) (x : A) → coded table byte ≡ Some x → AllByRecursion (λ (entry : ℕ × A). Is entry.0 entry.1) table → Is byte x
-coded_is Is [] byte x e all = absurd cc
-coded_is {A} Is (entry ∷ entries) byte x e all = by (byte == entry.0) (λ h. eqb-true byte entry.0 h) (λ later. coded_is Is entries byte x later all.1) e
+byte_entry_is : {A : Type 0} (Is : ℕ → A → Type 0) (table : List (ℕ × A)) (byte : ℕ) (x : A) → byte_entry table byte ≡ Some x → AllByRecursion (λ (entry : ℕ × A). Is entry.0 entry.1) table → Is byte x
+byte_entry_is Is [] byte x e all = absurd cc
+byte_entry_is {A} Is (entry ∷ entries) byte x e all = by (byte == entry.0) (λ h. eqb-true byte entry.0 h) (λ later. byte_entry_is Is entries byte x later all.1) e
   where
-    by : (b : Bool) → (b ≡ true → byte ≡ entry.0) → (coded entries byte ≡ Some x → Is byte x) → (if b then Some entry.1 else coded entries byte) ≡ Some x → Is byte x
+    by : (b : Bool) → (b ≡ true → byte ≡ entry.0) → (byte_entry entries byte ≡ Some x → Is byte x) → (if b then Some entry.1 else byte_entry entries byte) ≡ Some x → Is byte x
     by true same later f = subst (Is byte) (same_Some entry.1 x f) (subst (λ (n : ℕ). Is n entry.1) (sym (same refl)) all.0)
     by false same later f = later f
 
 -- a token that stands for something is a symbol that does
-meant_is : {A : Type 0} (Is : ℕ → A → Type 0) (stands_for : ℕ → Option A) → ((byte : ℕ) (x : A) → stands_for byte ≡ Some x → Is byte x)
-    → (f : Form) (x : A) → meant stands_for (symbol_in f) ≡ Some x → (byte : ℕ) × (f ≡ form.Symbol byte) × Is byte x
-meant_is Is stands_for is (form.Symbol byte) x e = (byte, refl, is byte x e)
-meant_is Is stands_for is f x e = absurd cc
+symbol_meaning_is : {A : Type 0} (Is : ℕ → A → Type 0) (stands_for : ℕ → Option A) → ((byte : ℕ) (x : A) → stands_for byte ≡ Some x → Is byte x)
+    → (f : Form) (x : A) → symbol_meaning stands_for (symbol_in f) ≡ Some x → (byte : ℕ) × (f ≡ form.Symbol byte) × Is byte x
+symbol_meaning_is Is stands_for is (form.Symbol byte) x e = (byte, refl, is byte x e)
+symbol_meaning_is Is stands_for is f x e = absurd cc
 
 -- ---- values
 
@@ -44,7 +44,7 @@ IsOfBase byte x = byte ≡ base_symbol x
 -- the symbol of what a symbol stands for
 base_named : (byte : ℕ) (x : Base) → read.base_of byte ≡ Some x → IsOfBase byte x
 unfolding read.base_of read.base_table
-base_named byte x e = coded_is IsOfBase read.base_table byte x e (refl, (refl, (refl, (refl, (refl, tt)))))
+base_named byte x e = byte_entry_is IsOfBase read.base_table byte x e (refl, (refl, (refl, (refl, (refl, tt)))))
 
 -- each one's symbol stands for it
 base_back : (x : Base) → read.base_of (base_symbol x) ≡ Some x
@@ -58,7 +58,7 @@ base_back base.Both = refl
 -- a token that stands for a value is its symbol
 base_is : (f : Form) (x : Base) → read.base_in f ≡ Some x → f ≡ form.Symbol (base_symbol x)
 base_is f x e =
-    let m = meant_is IsOfBase read.base_of base_named f x e in
+    let m = symbol_meaning_is IsOfBase read.base_of base_named f x e in
     m.1 ∙ ap form.Symbol m.2
 
 -- a value
@@ -84,7 +84,7 @@ IsOfSym byte x = (byte ≡ sym_symbol x) × IsSingle x
 sym_named : (byte : ℕ) (x : Sym) → read.sym_of byte ≡ Some x → IsOfSym byte x
 unfolding read.sym_of read.sym_table
 sym_named byte x e =
-    coded_is IsOfSym read.sym_table byte x e
+    byte_entry_is IsOfSym read.sym_table byte x e
     ((refl, tt), ((refl, tt), ((refl, tt), ((refl, tt), ((refl, tt), ((refl, tt), ((refl, tt), ((refl, tt), ((refl, tt), ((refl, tt), ((refl, tt), tt)))))))))))
 
 -- each one's symbol stands for it
@@ -106,12 +106,12 @@ sym_back syms.Change f = refl
 -- a token that stands for a field is its symbol
 sym_is : (f : Form) (x : Sym) → read.sym_in f ≡ Some x → f ≡ form.Symbol (sym_symbol x)
 sym_is f x e =
-    let m = meant_is IsOfSym read.sym_of sym_named f x e in
+    let m = symbol_meaning_is IsOfSym read.sym_of sym_named f x e in
     m.1 ∙ ap form.Symbol m.2.0
 
 -- a field that a token stands for has one symbol
 sym_single : (f : Form) (x : Sym) → read.sym_in f ≡ Some x → IsSingle x
-sym_single f x e = (meant_is IsOfSym read.sym_of sym_named f x e).2.1
+sym_single f x e = (symbol_meaning_is IsOfSym read.sym_of sym_named f x e).2.1
 
 -- a field of one symbol is written with it
 single_spelled : (x : Sym) → IsSingle x → bare (form.Symbol (sym_symbol x)) ∷ [] ≡ spell.field x

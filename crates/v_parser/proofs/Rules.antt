@@ -7,7 +7,7 @@ use Rattle.v_tree.specs.declared.locations.Location.{Location}
 use Rattle.v_tree.specs.Written.{Form, form_of, Written, at, bare, placed_first, IsKept, written_if_there, behind_commas, between_commas, one_by_one}
 use Rattle.v_tree.specs.Written as form
 use Rattle.v_tree.specs.Fit.{IsSoundForm, AreFit, AreSome, IsFitIfThere}
-use Rattle.v_parser.specs.Input.{Input, Outcome, Reader, front_in, front, location, next_in, next, and_then, ◌>>=◌, pure, ◌<$>◌, ◌&◌, token_by, token, is_mark, optional, choice, commas_from, commas, separated, many_from, many_after, many, some, here}
+use Rattle.v_parser.specs.Input.{Input, Outcome, Reader, front_in, front, location, next_in, next, and_then, ◌>>=◌, pure, ◌<$>◌, ◌&◌, token_by, token, is_mark, optional, choice, commas_from, commas, comma_list, many_from, many_after, many, some, here}
 
 -- the next token is what is written
 pub record StandsAt (i : Input) (w : Written) : Type 0 where
@@ -445,11 +445,11 @@ commas_rule {A} {p} {written} {IsFit} {may_follow} rule comma = record {
 }
 
 -- one part or several, with commas between, where a part may have no token
-pub separated_any_rule : {A : Type 0} {p : Reader A} {written : A → List Written} {IsFit : A → Type 0} {may_follow : Follow} → Rule p written IsFit may_follow
+pub comma_list_any_rule : {A : Type 0} {p : Reader A} {written : A → List Written} {IsFit : A → Type 0} {may_follow : Follow} → Rule p written IsFit may_follow
     → ((ws : List Written) → may_follow (bare (form.Mark 44) ∷ ws) ≡ true)
-    → Rule (separated p) (between_commas written) (AreSome IsFit) (λ ws. may_follow ws && no_comma ws)
-unfolding separated commas
-separated_any_rule {A} {p} {written} {IsFit} {may_follow} rule comma = record {
+    → Rule (comma_list p) (between_commas written) (AreSome IsFit) (λ ws. may_follow ws && no_comma ws)
+unfolding comma_list commas
+comma_list_any_rule {A} {p} {written} {IsFit} {may_follow} rule comma = record {
   takes = λ i j xs source e.
       let a = bind_ok (p i) (λ x. commas p (x ∷ [])) (xs, j) e in
       let t = rule.takes i a.0.1 a.0.0 source a.1 in
@@ -461,7 +461,7 @@ separated_any_rule {A} {p} {written} {IsFit} {may_follow} rule comma = record {
 }
   where
     reread : (i j : Input) (xs : List A) (ws : List Written) → Takes i (between_commas written xs ++ ws) j → IsEnd j → 0 < length xs → AllByRecursion IsFit xs → (may_follow ws ≡ true) × (no_comma ws ≡ true)
-        → (m : Input) × (separated p i ≡ Ok (xs, m)) × Takes m ws j
+        → (m : Input) × (comma_list p i ≡ Ok (xs, m)) × Takes m ws j
     reread i j [] ws t end there fit follows = absurd (omega arith)
     reread i j (x ∷ xs) ws t end there fit follows =
         let t' = subst (λ (vs : List Written). Takes i vs j) (append_assoc (written x) (behind_commas written xs) ws) t in
@@ -471,10 +471,10 @@ separated_any_rule {A} {p} {written} {IsFit} {may_follow} rule comma = record {
         (s.0, bind_step (p i) (λ y. commas p (y ∷ [])) (x, r.0) r.1 ∙ s.1, s.2)
 
 -- one part or several, with commas between, each with a token
-pub separated_rule : {A : Type 0} {p : Reader A} {written : A → List Written} {IsFit : A → Type 0} {may_follow : Follow} → Rule p written IsFit may_follow
+pub comma_list_rule : {A : Type 0} {p : Reader A} {written : A → List Written} {IsFit : A → Type 0} {may_follow : Follow} → Rule p written IsFit may_follow
     → ((x : A) → IsFit x → 0 < length (written x)) → ((ws : List Written) → may_follow (bare (form.Mark 44) ∷ ws) ≡ true)
-    → Rule (separated p) (between_commas written) (AreSome IsFit) (λ ws. may_follow ws && no_comma ws)
-separated_rule rule some comma = separated_any_rule rule comma
+    → Rule (comma_list p) (between_commas written) (AreSome IsFit) (λ ws. may_follow ws && no_comma ws)
+comma_list_rule rule some comma = comma_list_any_rule rule comma
 
 -- parts that are found up to the end are written so and fit
 many_found : {A : Type 0} {p : Reader A} {written : A → List Written} {IsFit : A → Type 0} (stops : Form → Bool) → Rule p written IsFit anything

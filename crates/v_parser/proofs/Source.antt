@@ -6,7 +6,7 @@ use Rattle.v_lexer.specs.declared.token.Token.{Token}
 use Rattle.v_lexer.specs.declared.token.TokenKind.{TokenKind}
 use Rattle.v_lexer.specs.declared.token.TokenKind.TheVariants as kind
 use Rattle.v_lexer.specs.declared.token.Piece.{Piece}
-use Rattle.v_lexer.specs.Sound.{IsVisible, AreDigits, HasDigits, HasBits, IsSound, AreSound}
+use Rattle.v_lexer.specs.Sound.{IsVisible, AreDigits, HasDigits, HasBits, IsSound, AreSound, bytes_of}
 use Rattle.std.proofs.lemmas.Bool.{cases_Bool}
 use Rattle.std.proofs.lemmas.List.Elements.{recursion_from_All}
 use Rattle.v_lexer.specs.Places.{table_after}
@@ -15,7 +15,7 @@ use Rattle.v_lexer.specs.Tokens.{given}
 use Rattle.v_lexer.specs.Values.{name_text, decimal_digits, literal_of}
 use Rattle.v_lexer.specs.Numbers.{decimal_value}
 use Rattle.v_lexer.proofs.Sound.{are_sound}
-use Rattle.v_tree.specs.Written.{slice_of, form_of, form_by, number_form, based_form}
+use Rattle.v_tree.specs.Written.{form_of, form_by, number_form, based_form}
 use Rattle.v_tree.specs.Fit.{IsSoundForm, IsNameText, IsDigit, IsFitDecimal, AreSome}
 use Rattle.v_parser.proofs.Rules.{IsSource}
 use Rattle.v_parser.proofs.DescriptionRules.{AreEnded}
@@ -61,7 +61,7 @@ decimal_sound bytes h few = record {
 }
 
 -- a token is no longer than its text
-slice_few : (text : List ℕ) (token : Token) → token.end ≤ length text → length text ≤ 67108864 → length (slice_of text token) ≤ 67108864
+slice_few : (text : List ℕ) (token : Token) → token.end ≤ length text → length text ≤ 67108864 → length (bytes_of text token) ≤ 67108864
 slice_few text token within small = omega (arith, length-take (token.end - token.start) (drop token.start text))
 
 -- each token says what a tree may keep
@@ -69,13 +69,13 @@ sound_form : (text : List ℕ) (token : Token) → length text ≤ 67108864 → 
 unfolding form_of
 sound_form text token small sound = by token.kind refl
   where
-    by : (k : TokenKind) → token.kind ≡ k → IsSoundForm (form_by k (slice_of text token))
-    by kind.Name is = name_sound (name_text (slice_of text token)) (sound.name is)
+    by : (k : TokenKind) → token.kind ≡ k → IsSoundForm (form_by k (bytes_of text token))
+    by kind.Name is = name_sound (name_text (bytes_of text token)) (sound.name is)
     by kind.Word is = tt
-    by kind.Number is = number_sound (decimal_value (slice_of text token))
-    by kind.Decimal is = decimal_sound (slice_of text token) (sound.decimal is) (slice_few text token sound.within small)
+    by kind.Number is = number_sound (decimal_value (bytes_of text token))
+    by kind.Decimal is = decimal_sound (bytes_of text token) (sound.decimal is) (slice_few text token sound.within small)
     by kind.Exponent is = tt
-    by kind.Based is = based_sound (slice_of text token) (sound.based is)
+    by kind.Based is = based_sound (bytes_of text token) (sound.based is)
     by kind.Text is = tt
     by kind.Directive is = tt
     by kind.Symbol is = tt

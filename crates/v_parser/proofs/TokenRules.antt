@@ -36,7 +36,7 @@ use Rattle.v_tree.specs.Words as words
 use Rattle.v_tree.specs.Spelling as spell
 use Rattle.v_parser.specs.Input.{token, is_mark, is_symbol, is_word, is_directive, is_finish, word_in, where_true, name_in, number_in, based_in, ◌<$>◌}
 use Rattle.v_parser.specs.Input as input
-use Rattle.v_parser.specs.Words.{named, chosen, level_with}
+use Rattle.v_parser.specs.Words.{word_entry, word_meaning, level_with}
 use Rattle.v_parser.specs.Words as stands
 use Rattle.v_parser.proofs.Rules.{Rule, anything, token_rule, bare_rule, map_rule}
 
@@ -197,41 +197,41 @@ finish_rule = skipped_rule is_finish form.End refl finish_is refl
 -- ---- words that stand for something
 
 -- what a table gives for a word is that word's
-pub named_is : {A : Type 0} (word_of : A → List ℕ) (table : List (List ℕ × A)) (word : List ℕ) (x : A) → named table word ≡ Some x
+pub word_entry_is : {A : Type 0} (word_of : A → List ℕ) (table : List (List ℕ × A)) (word : List ℕ) (x : A) → word_entry table word ≡ Some x
     → AllByRecursion (λ (entry : List ℕ × A). entry.0 ≡ word_of entry.1) table → word ≡ word_of x
-named_is word_of [] word x e all = absurd cc
-named_is {A} word_of (entry ∷ entries) word x e all = by (bytes_eq word entry.0) (bytes_eq-Decides word entry.0).0 e (λ later. named_is word_of entries word x later all.1)
+word_entry_is word_of [] word x e all = absurd cc
+word_entry_is {A} word_of (entry ∷ entries) word x e all = by (bytes_eq word entry.0) (bytes_eq-Decides word entry.0).0 e (λ later. word_entry_is word_of entries word x later all.1)
   where
-    by : (b : Bool) → (b ≡ true → word ≡ entry.0) → (if b then Some entry.1 else named entries word) ≡ Some x → (named entries word ≡ Some x → word ≡ word_of x) → word ≡ word_of x
+    by : (b : Bool) → (b ≡ true → word ≡ entry.0) → (if b then Some entry.1 else word_entry entries word) ≡ Some x → (word_entry entries word ≡ Some x → word ≡ word_of x) → word ≡ word_of x
     by true same e later =
         let first : entry.1 ≡ x = same_Some entry.1 x e in
         same refl ∙ all.0 ∙ ap word_of first
     by false same e later = later e
 
 -- a token that stands for something is its word
-pub chosen_is : {A : Type 0} (stands_for : List ℕ → Option A) (word_of : A → List ℕ) → ((word : List ℕ) (x : A) → stands_for word ≡ Some x → word ≡ word_of x)
-    → (f : Form) (x : A) → chosen stands_for (word_in f) ≡ Some x → f ≡ form.Word (word_of x)
-chosen_is stands_for word_of is (form.Word w) x e = ap form.Word (is w x e)
-chosen_is stands_for word_of is f x e = absurd cc
+pub word_meaning_is : {A : Type 0} (stands_for : List ℕ → Option A) (word_of : A → List ℕ) → ((word : List ℕ) (x : A) → stands_for word ≡ Some x → word ≡ word_of x)
+    → (f : Form) (x : A) → word_meaning stands_for (word_in f) ≡ Some x → f ≡ form.Word (word_of x)
+word_meaning_is stands_for word_of is (form.Word w) x e = ap form.Word (is w x e)
+word_meaning_is stands_for word_of is f x e = absurd cc
 
 -- a word that stands for something, with its location
-chosen_rule : {A : Type 0} (stands_for : List ℕ → Option A) (word_of : A → List ℕ) → ((word : List ℕ) (x : A) → stands_for word ≡ Some x → word ≡ word_of x)
+word_meaning_rule : {A : Type 0} (stands_for : List ℕ → Option A) (word_of : A → List ℕ) → ((word : List ℕ) (x : A) → stands_for word ≡ Some x → word ≡ word_of x)
     → ((x : A) → stands_for (word_of x) ≡ Some x)
-    → Rule (token (λ f. chosen stands_for (word_in f))) (λ (z : A × Location). spell.placed_word z.1 (word_of z.0) ∷ []) fit.IsFree anything
-chosen_rule stands_for word_of is back =
-    token_rule (λ f. chosen stands_for (word_in f)) (λ x. form.Word (word_of x)) fit.IsFree refl (chosen_is stands_for word_of is) (λ f x sound e. tt) (λ x free. back x)
+    → Rule (token (λ f. word_meaning stands_for (word_in f))) (λ (z : A × Location). spell.placed_word z.1 (word_of z.0) ∷ []) fit.IsFree anything
+word_meaning_rule stands_for word_of is back =
+    token_rule (λ f. word_meaning stands_for (word_in f)) (λ x. form.Word (word_of x)) fit.IsFree refl (word_meaning_is stands_for word_of is) (λ f x sound e. tt) (λ x free. back x)
 
 -- a word that stands for something, without its location
-bare_chosen_rule : {A : Type 0} (stands_for : List ℕ → Option A) (word_of : A → List ℕ) → ((word : List ℕ) (x : A) → stands_for word ≡ Some x → word ≡ word_of x)
+bare_word_meaning_rule : {A : Type 0} (stands_for : List ℕ → Option A) (word_of : A → List ℕ) → ((word : List ℕ) (x : A) → stands_for word ≡ Some x → word ≡ word_of x)
     → ((x : A) → stands_for (word_of x) ≡ Some x)
-    → Rule ((λ (z : A × Location). z.0) <$> token (λ f. chosen stands_for (word_in f))) (λ (x : A). spell.word (word_of x) ∷ []) fit.IsFree anything
-bare_chosen_rule stands_for word_of is back =
-    bare_rule (λ f. chosen stands_for (word_in f)) (λ x. form.Word (word_of x)) fit.IsFree refl (chosen_is stands_for word_of is) (λ f x sound e. tt) (λ x free. back x)
+    → Rule ((λ (z : A × Location). z.0) <$> token (λ f. word_meaning stands_for (word_in f))) (λ (x : A). spell.word (word_of x) ∷ []) fit.IsFree anything
+bare_word_meaning_rule stands_for word_of is back =
+    bare_rule (λ f. word_meaning stands_for (word_in f)) (λ x. form.Word (word_of x)) fit.IsFree refl (word_meaning_is stands_for word_of is) (λ f x sound e. tt) (λ x free. back x)
 
 -- the word of what a word stands for
 pub direction_named : (word : List ℕ) (x : Direction) → stands.direction_of word ≡ Some x → word ≡ words.direction_word x
 unfolding stands.direction_of stands.direction_table
-direction_named word x e = named_is words.direction_word stands.direction_table word x e (refl, (refl, (refl, tt)))
+direction_named word x e = word_entry_is words.direction_word stands.direction_table word x e (refl, (refl, (refl, tt)))
 
 -- each one's word stands for it
 pub direction_back : (x : Direction) → stands.direction_of (words.direction_word x) ≡ Some x
@@ -242,16 +242,16 @@ direction_back direction.Inout = refl
 
 -- a direction, with its location
 pub direction_rule : Rule (token stands.direction_in) (λ z. spell.placed_word z.1 (words.direction_word z.0) ∷ []) fit.IsFree anything
-direction_rule = chosen_rule stands.direction_of words.direction_word direction_named direction_back
+direction_rule = word_meaning_rule stands.direction_of words.direction_word direction_named direction_back
 
 -- a direction
 pub bare_direction_rule : Rule ((λ z. z.0) <$> token stands.direction_in) (λ x. spell.word (words.direction_word x) ∷ []) fit.IsFree anything
-bare_direction_rule = bare_chosen_rule stands.direction_of words.direction_word direction_named direction_back
+bare_direction_rule = bare_word_meaning_rule stands.direction_of words.direction_word direction_named direction_back
 
 -- the word of what a word stands for
 pub net_type_named : (word : List ℕ) (x : NetType) → stands.net_type_of word ≡ Some x → word ≡ words.net_type_word x
 unfolding stands.net_type_of stands.net_type_table
-net_type_named word x e = named_is words.net_type_word stands.net_type_table word x e (refl, (refl, (refl, (refl, (refl, (refl, (refl, (refl, (refl, (refl, tt))))))))))
+net_type_named word x e = word_entry_is words.net_type_word stands.net_type_table word x e (refl, (refl, (refl, (refl, (refl, (refl, (refl, (refl, (refl, (refl, tt))))))))))
 
 -- each one's word stands for it
 pub net_type_back : (x : NetType) → stands.net_type_of (words.net_type_word x) ≡ Some x
@@ -269,16 +269,16 @@ net_type_back net_type.Supply1 = refl
 
 -- a type of nets, with its location
 pub net_type_rule : Rule (token stands.net_type_in) (λ z. spell.placed_word z.1 (words.net_type_word z.0) ∷ []) fit.IsFree anything
-net_type_rule = chosen_rule stands.net_type_of words.net_type_word net_type_named net_type_back
+net_type_rule = word_meaning_rule stands.net_type_of words.net_type_word net_type_named net_type_back
 
 -- a type of nets
 pub bare_net_type_rule : Rule ((λ z. z.0) <$> token stands.net_type_in) (λ x. spell.word (words.net_type_word x) ∷ []) fit.IsFree anything
-bare_net_type_rule = bare_chosen_rule stands.net_type_of words.net_type_word net_type_named net_type_back
+bare_net_type_rule = bare_word_meaning_rule stands.net_type_of words.net_type_word net_type_named net_type_back
 
 -- the word of what a word stands for
 pub vector_word_named : (word : List ℕ) (x : VectorWord) → stands.vector_word_of word ≡ Some x → word ≡ words.vector_word x
 unfolding stands.vector_word_of stands.vector_word_table
-vector_word_named word x e = named_is words.vector_word stands.vector_word_table word x e (refl, (refl, tt))
+vector_word_named word x e = word_entry_is words.vector_word stands.vector_word_table word x e (refl, (refl, tt))
 
 -- each one's word stands for it
 pub vector_word_back : (x : VectorWord) → stands.vector_word_of (words.vector_word x) ≡ Some x
@@ -288,16 +288,16 @@ vector_word_back vector.Scalared = refl
 
 -- a word before a range, with its location
 pub vector_word_rule : Rule (token stands.vector_word_in) (λ z. spell.placed_word z.1 (words.vector_word z.0) ∷ []) fit.IsFree anything
-vector_word_rule = chosen_rule stands.vector_word_of words.vector_word vector_word_named vector_word_back
+vector_word_rule = word_meaning_rule stands.vector_word_of words.vector_word vector_word_named vector_word_back
 
 -- a word before a range
 pub bare_vector_word_rule : Rule ((λ z. z.0) <$> token stands.vector_word_in) (λ x. spell.word (words.vector_word x) ∷ []) fit.IsFree anything
-bare_vector_word_rule = bare_chosen_rule stands.vector_word_of words.vector_word vector_word_named vector_word_back
+bare_vector_word_rule = bare_word_meaning_rule stands.vector_word_of words.vector_word vector_word_named vector_word_back
 
 -- the word of what a word stands for
 pub charge_named : (word : List ℕ) (x : Charge) → stands.charge_of word ≡ Some x → word ≡ words.charge_word x
 unfolding stands.charge_of stands.charge_table
-charge_named word x e = named_is words.charge_word stands.charge_table word x e (refl, (refl, (refl, tt)))
+charge_named word x e = word_entry_is words.charge_word stands.charge_table word x e (refl, (refl, (refl, tt)))
 
 -- each one's word stands for it
 pub charge_back : (x : Charge) → stands.charge_of (words.charge_word x) ≡ Some x
@@ -308,16 +308,16 @@ charge_back charge.Large = refl
 
 -- a word for a charge, with its location
 pub charge_rule : Rule (token stands.charge_in) (λ z. spell.placed_word z.1 (words.charge_word z.0) ∷ []) fit.IsFree anything
-charge_rule = chosen_rule stands.charge_of words.charge_word charge_named charge_back
+charge_rule = word_meaning_rule stands.charge_of words.charge_word charge_named charge_back
 
 -- a word for a charge
 pub bare_charge_rule : Rule ((λ z. z.0) <$> token stands.charge_in) (λ x. spell.word (words.charge_word x) ∷ []) fit.IsFree anything
-bare_charge_rule = bare_chosen_rule stands.charge_of words.charge_word charge_named charge_back
+bare_charge_rule = bare_word_meaning_rule stands.charge_of words.charge_word charge_named charge_back
 
 -- the word of what a word stands for
 pub logic_named : (word : List ℕ) (x : LogicGate) → stands.logic_of word ≡ Some x → word ≡ words.logic_word x
 unfolding stands.logic_of stands.logic_table
-logic_named word x e = named_is words.logic_word stands.logic_table word x e (refl, (refl, (refl, (refl, (refl, (refl, (refl, (refl, (refl, (refl, (refl, (refl, tt))))))))))))
+logic_named word x e = word_entry_is words.logic_word stands.logic_table word x e (refl, (refl, (refl, (refl, (refl, (refl, (refl, (refl, (refl, (refl, (refl, (refl, tt))))))))))))
 
 -- each one's word stands for it
 pub logic_back : (x : LogicGate) → stands.logic_of (words.logic_word x) ≡ Some x
@@ -337,16 +337,16 @@ logic_back logic.Notif1 = refl
 
 -- a logic gate, with its location
 pub logic_rule : Rule (token stands.logic_in) (λ z. spell.placed_word z.1 (words.logic_word z.0) ∷ []) fit.IsFree anything
-logic_rule = chosen_rule stands.logic_of words.logic_word logic_named logic_back
+logic_rule = word_meaning_rule stands.logic_of words.logic_word logic_named logic_back
 
 -- a logic gate
 pub bare_logic_rule : Rule ((λ z. z.0) <$> token stands.logic_in) (λ x. spell.word (words.logic_word x) ∷ []) fit.IsFree anything
-bare_logic_rule = bare_chosen_rule stands.logic_of words.logic_word logic_named logic_back
+bare_logic_rule = bare_word_meaning_rule stands.logic_of words.logic_word logic_named logic_back
 
 -- the word of what a word stands for
 pub switch_named : (word : List ℕ) (x : Switch) → stands.switch_of word ≡ Some x → word ≡ words.switch_word x
 unfolding stands.switch_of stands.switch_table
-switch_named word x e = named_is words.switch_word stands.switch_table word x e (refl, (refl, (refl, (refl, (refl, (refl, (refl, (refl, (refl, (refl, tt))))))))))
+switch_named word x e = word_entry_is words.switch_word stands.switch_table word x e (refl, (refl, (refl, (refl, (refl, (refl, (refl, (refl, (refl, (refl, tt))))))))))
 
 -- each one's word stands for it
 pub switch_back : (x : Switch) → stands.switch_of (words.switch_word x) ≡ Some x
@@ -364,16 +364,16 @@ switch_back switch.Rtranif1 = refl
 
 -- a switch, with its location
 pub switch_rule : Rule (token stands.switch_in) (λ z. spell.placed_word z.1 (words.switch_word z.0) ∷ []) fit.IsFree anything
-switch_rule = chosen_rule stands.switch_of words.switch_word switch_named switch_back
+switch_rule = word_meaning_rule stands.switch_of words.switch_word switch_named switch_back
 
 -- a switch
 pub bare_switch_rule : Rule ((λ z. z.0) <$> token stands.switch_in) (λ x. spell.word (words.switch_word x) ∷ []) fit.IsFree anything
-bare_switch_rule = bare_chosen_rule stands.switch_of words.switch_word switch_named switch_back
+bare_switch_rule = bare_word_meaning_rule stands.switch_of words.switch_word switch_named switch_back
 
 -- the word of what a word stands for
 pub tran_named : (word : List ℕ) (x : TranGate) → stands.tran_of word ≡ Some x → word ≡ words.tran_word x
 unfolding stands.tran_of stands.tran_table
-tran_named word x e = named_is words.tran_word stands.tran_table word x e (refl, (refl, tt))
+tran_named word x e = word_entry_is words.tran_word stands.tran_table word x e (refl, (refl, tt))
 
 -- each one's word stands for it
 pub tran_back : (x : TranGate) → stands.tran_of (words.tran_word x) ≡ Some x
@@ -383,16 +383,16 @@ tran_back tran.Rtran = refl
 
 -- a pass gate, with its location
 pub tran_rule : Rule (token stands.tran_in) (λ z. spell.placed_word z.1 (words.tran_word z.0) ∷ []) fit.IsFree anything
-tran_rule = chosen_rule stands.tran_of words.tran_word tran_named tran_back
+tran_rule = word_meaning_rule stands.tran_of words.tran_word tran_named tran_back
 
 -- a pass gate
 pub bare_tran_rule : Rule ((λ z. z.0) <$> token stands.tran_in) (λ x. spell.word (words.tran_word x) ∷ []) fit.IsFree anything
-bare_tran_rule = bare_chosen_rule stands.tran_of words.tran_word tran_named tran_back
+bare_tran_rule = bare_word_meaning_rule stands.tran_of words.tran_word tran_named tran_back
 
 -- the word of what a word stands for
 pub pull_named : (word : List ℕ) (x : PullGate) → stands.pull_of word ≡ Some x → word ≡ words.pull_word x
 unfolding stands.pull_of stands.pull_table
-pull_named word x e = named_is words.pull_word stands.pull_table word x e (refl, (refl, tt))
+pull_named word x e = word_entry_is words.pull_word stands.pull_table word x e (refl, (refl, tt))
 
 -- each one's word stands for it
 pub pull_back : (x : PullGate) → stands.pull_of (words.pull_word x) ≡ Some x
@@ -402,16 +402,16 @@ pull_back pull.Pulldown = refl
 
 -- a pull gate, with its location
 pub pull_rule : Rule (token stands.pull_in) (λ z. spell.placed_word z.1 (words.pull_word z.0) ∷ []) fit.IsFree anything
-pull_rule = chosen_rule stands.pull_of words.pull_word pull_named pull_back
+pull_rule = word_meaning_rule stands.pull_of words.pull_word pull_named pull_back
 
 -- a pull gate
 pub bare_pull_rule : Rule ((λ z. z.0) <$> token stands.pull_in) (λ x. spell.word (words.pull_word x) ∷ []) fit.IsFree anything
-bare_pull_rule = bare_chosen_rule stands.pull_of words.pull_word pull_named pull_back
+bare_pull_rule = bare_word_meaning_rule stands.pull_of words.pull_word pull_named pull_back
 
 -- the word of what a word stands for
 pub opening_named : (word : List ℕ) (x : ModuleWord) → stands.opening_of word ≡ Some x → word ≡ words.opening_word x
 unfolding stands.opening_of stands.opening_table
-opening_named word x e = named_is words.opening_word stands.opening_table word x e (refl, (refl, tt))
+opening_named word x e = word_entry_is words.opening_word stands.opening_table word x e (refl, (refl, tt))
 
 -- each one's word stands for it
 pub opening_back : (x : ModuleWord) → stands.opening_of (words.opening_word x) ≡ Some x
@@ -421,16 +421,16 @@ opening_back opening.Macromodule = refl
 
 -- a word that opens a module, with its location
 pub opening_rule : Rule (token stands.opening_in) (λ z. spell.placed_word z.1 (words.opening_word z.0) ∷ []) fit.IsFree anything
-opening_rule = chosen_rule stands.opening_of words.opening_word opening_named opening_back
+opening_rule = word_meaning_rule stands.opening_of words.opening_word opening_named opening_back
 
 -- a word that opens a module
 pub bare_opening_rule : Rule ((λ z. z.0) <$> token stands.opening_in) (λ x. spell.word (words.opening_word x) ∷ []) fit.IsFree anything
-bare_opening_rule = bare_chosen_rule stands.opening_of words.opening_word opening_named opening_back
+bare_opening_rule = bare_word_meaning_rule stands.opening_of words.opening_word opening_named opening_back
 
 -- the word of what a word stands for
 pub level_named : (word : List ℕ) (x : Level) → stands.level_of word ≡ Some x → word ≡ words.level_word x
 unfolding stands.level_of stands.level_table
-level_named word x e = named_is words.level_word stands.level_table word x e (refl, (refl, (refl, (refl, (refl, (refl, (refl, (refl, (refl, (refl, tt))))))))))
+level_named word x e = word_entry_is words.level_word stands.level_table word x e (refl, (refl, (refl, (refl, (refl, (refl, (refl, (refl, (refl, (refl, tt))))))))))
 
 -- each one's word stands for it, by its parts
 strength_back : (strength : Strength) (of_one : Bool) → stands.level_of (words.strength_word strength of_one) ≡ Some (level_with strength of_one)
@@ -452,8 +452,8 @@ level_back x = strength_back x.strength x.of_one
 
 -- a level, with its location
 pub level_rule : Rule (token stands.level_in) (λ z. spell.placed_word z.1 (words.level_word z.0) ∷ []) fit.IsFree anything
-level_rule = chosen_rule stands.level_of words.level_word level_named level_back
+level_rule = word_meaning_rule stands.level_of words.level_word level_named level_back
 
 -- a level
 pub bare_level_rule : Rule ((λ z. z.0) <$> token stands.level_in) (λ x. spell.word (words.level_word x) ∷ []) fit.IsFree anything
-bare_level_rule = bare_chosen_rule stands.level_of words.level_word level_named level_back
+bare_level_rule = bare_word_meaning_rule stands.level_of words.level_word level_named level_back

@@ -1,7 +1,7 @@
 -- One turn of a loop that reads parts.
 use Rattle.std.proofs.Common.{◌≡◌, ℕ, suc, ◌+◌, ◌-◌, ◌<◌, Bool, true, false, List, [], ◌∷◌, ◌++◌, Ok, refl, sym, ap, ◌∙◌, arith}
 use Rattle.v_tree.specs.Written.{Form}
-use Rattle.v_parser.specs.Input.{Input, Outcome, Reader, front, next, is_mark, passed_comma, commas_from, many_from}
+use Rattle.v_parser.specs.Input.{Input, Outcome, Reader, front, next, is_mark, after_comma, commas_from, many_from}
 
 -- a turn is left, so one is taken
 pub left_over : (n k : ℕ) → k < n → n - k ≡ suc (n - (k + 1))
@@ -14,7 +14,7 @@ commas_more p m found i j x comma read = rw (comma, read) refl
 
 -- a part behind a comma is read
 pub commas_step : {A : Type 0} (p : Reader A) (n k : ℕ) (found : List A) (i j : Input) (x : A) (all : Outcome (List A)) → k < n → is_mark 44 (front i) ≡ true
-    → p (passed_comma i) ≡ Ok (x, j) → commas_from p (n - k) found i ≡ all → commas_from p (n - (k + 1)) (found ++ x ∷ []) j ≡ all
+    → p (after_comma i) ≡ Ok (x, j) → commas_from p (n - k) found i ≡ all → commas_from p (n - (k + 1)) (found ++ x ∷ []) j ≡ all
 commas_step p n k found i j x all below comma read so_far =
     let read_next : p (next i) ≡ Ok (x, j) = rw comma at read in
     sym (commas_more p (n - (k + 1)) found i j x comma read_next) ∙ ap (λ m. commas_from p m found i) (sym (left_over n k below)) ∙ so_far

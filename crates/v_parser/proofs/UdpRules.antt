@@ -20,7 +20,7 @@ use Rattle.v_parser.specs.Expressions.{sees_mark, sees_number}
 use Rattle.v_parser.specs.Modules.{sees_word}
 use Rattle.v_parser.specs.Primitives.{sees_word_second, ends_items, ends_table}
 use Rattle.v_parser.specs.Primitives as read
-use Rattle.v_parser.proofs.Rules.{Rule, Follow, anything, begins, first_form, map_rule, variant_rule, refit_rule, respell_rule, pair_rule, optional_rule, choice_rule, commas_rule, separated_rule, many_rule}
+use Rattle.v_parser.proofs.Rules.{Rule, Follow, anything, begins, first_form, map_rule, variant_rule, refit_rule, respell_rule, pair_rule, optional_rule, choice_rule, commas_rule, comma_list_rule, many_rule}
 use Rattle.v_parser.proofs.TokenRules.{name_rule, placed_number_rule, placed_based_rule, skip_rule, word_rule, skip_word_rule}
 use Rattle.v_parser.proofs.DeclarationRules.{may_skip}
 use Rattle.v_parser.proofs.RowRules.{placed_row_rule, row_some, row_begins}
@@ -130,7 +130,7 @@ names_from x f = absurd f
 named_header_rule : Rule read.named_header spell.udp_header AreNames anything
 unfolding read.named_header
 named_header_rule =
-    refit_rule (variant_rule (pair_rule (skip_rule 40) (pair_rule (separated_rule name_rule (λ x f. omega arith) (λ ws. refl)) (skip_rule 41) (λ y ws f g. refl)) (λ y ws f g. refl))
+    refit_rule (variant_rule (pair_rule (skip_rule 40) (pair_rule (comma_list_rule name_rule (λ x f. omega arith) (λ ws. refl)) (skip_rule 41) (λ y ws f g. refl)) (λ y ws f g. refl))
     read.names_of spell.udp_header (λ a. refl))
     (λ x f. subst AreNames (sym f.1) f.2.1.0) names_from
 
@@ -246,7 +246,7 @@ input_item_rule : Rule read.input_item spell.udp_decl IsInput anything
 unfolding read.input_item
 input_item_rule =
     refit_rule (variant_rule (pair_rule (word_rule (codes "input"))
-    (pair_rule (separated_rule name_rule (λ x f. omega arith) (λ ws. refl)) (skip_rule 59)
+    (pair_rule (comma_list_rule name_rule (λ x f. omega arith) (λ ws. refl)) (skip_rule 59)
     (λ y ws f g. refl))
     (λ y ws f g. refl))
     read.inputs_of spell.udp_decl (λ a. refl))

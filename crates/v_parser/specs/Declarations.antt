@@ -21,7 +21,7 @@ use Rattle.v_tree.specs.declared.declarations.TriregDecl.{TriregDecl}
 use Rattle.v_tree.specs.declared.declarations.Pair.{Pair}
 use Rattle.v_tree.specs.declared.declarations.AssignItem.{AssignItem}
 use Rattle.v_tree.specs.Written.{Form}
-use Rattle.v_parser.specs.Input.{Reader, ◌<$>◌, ◌&◌, token, skip, word, name, is_mark, optional, choice, separated}
+use Rattle.v_parser.specs.Input.{Reader, ◌<$>◌, ◌&◌, token, skip, word, name, is_mark, optional, choice, comma_list}
 use Rattle.v_parser.specs.Expressions.{sees_mark, range, expr_at, target_at}
 use Rattle.v_parser.specs.Words.{direction_in, net_type_in, sees_net_type, vector_word_in, sees_vector_word}
 use Rattle.v_parser.specs.Drives.{drive, charge, delay_spec}
@@ -39,8 +39,8 @@ unfoldable pub net_type : Reader NetType
 net_type = (λ z. z.0) <$> token net_type_in
 
 -- a word before a range, without its location
-unfoldable pub vector_word_named : Reader VectorWord
-vector_word_named = (λ z. z.0) <$> token vector_word_in
+unfoldable pub range_word : Reader VectorWord
+range_word = (λ z. z.0) <$> token vector_word_in
 
 abbrev pub port_decl_of : (Direction × Location)
     × (Option NetType × (Option RangeBounds × (List Name × Unit {0}))) → PortDecl
@@ -57,14 +57,14 @@ port_decl_of z =
 unfoldable pub port_decl : Reader PortDecl
 port_decl = port_decl_of
     <$> (token direction_in & optional sees_net_type net_type & optional (sees_mark 91) range
-    & separated name & skip 59)
+    & comma_list name & skip 59)
 
 abbrev pub vector_range_of : Option VectorWord × RangeBounds → VectorRange
 vector_range_of z = record { word = z.0; range = z.1 }
 
 -- a range, with a word before it or without one
 unfoldable pub vector_range : Reader VectorRange
-vector_range = vector_range_of <$> (optional sees_vector_word vector_word_named & range)
+vector_range = vector_range_of <$> (optional sees_vector_word range_word & range)
 
 -- a word before a range, or a `[`
 abbrev pub begins_vector_range : Form → Form → Bool
@@ -83,7 +83,7 @@ sees_value f g = is_mark 61 g
 
 -- names alone, or names with values
 unfoldable pub declared_names : Reader DeclaredNames
-declared_names = choice sees_value (kind.Valued <$> separated valued_name) (kind.Names <$> separated name)
+declared_names = choice sees_value (kind.Valued <$> comma_list valued_name) (kind.Names <$> comma_list name)
 
 abbrev pub net_decl_of : (NetType × Location)
     × (Option DriveStrength × (Option VectorRange × (Option DelaySpec × (DeclaredNames × Unit {0}))))
@@ -122,7 +122,7 @@ unfoldable pub trireg_decl : Reader TriregDecl
 trireg_decl = trireg_of
     <$> (word (codes "trireg") & optional (sees_mark 40) charge
     & optional begins_vector_range vector_range & optional (sees_mark 35) delay_spec
-    & separated name & skip 59)
+    & comma_list name & skip 59)
 
 abbrev pub pair_of : Target × (Unit {0} × Expr) → Pair
 pair_of z = record { target = z.0; value = z.1.1 }
@@ -139,4 +139,4 @@ assign_of z = record { location = z.0; drive = z.1.0; delay = z.1.1.0; pairs = z
 unfoldable pub assign_item : Reader AssignItem
 assign_item = assign_of
     <$> (word (codes "assign") & optional (sees_mark 40) drive & optional (sees_mark 35) delay_spec
-    & separated pair & skip 59)
+    & comma_list pair & skip 59)

@@ -19,7 +19,7 @@ use Rattle.v_parser.specs.declared.directives.ScaleFactor.TheVariants.{One, Ten,
 use Rattle.v_parser.specs.declared.directives.TimeUnit.{TimeUnit}
 use Rattle.v_parser.specs.declared.directives.TimeUnit.TheVariants as units
 use Rattle.v_parser.specs.Input.{Reader, ◌<$>◌, ◌&◌, token, skip, directive_word, name_in, directive_in, is_directive, choice}
-use Rattle.v_parser.specs.Words.{named, chosen}
+use Rattle.v_parser.specs.Words.{word_entry, word_meaning}
 
 -- the first of two tokens is this directive
 abbrev pub sees_directive : List ℕ → Form → Form → Bool
@@ -36,10 +36,10 @@ cell_table = (codes "`celldefine", cells.Celldefine)
     ∷ (codes "`endcelldefine", cells.Endcelldefine) ∷ []
 
 unfoldable pub cell_of : List ℕ → Option CellWord
-cell_of bytes = named cell_table bytes
+cell_of bytes = word_entry cell_table bytes
 
 abbrev pub cell_in : Form → Option CellWord
-cell_in f = chosen cell_of (directive_in f)
+cell_in f = word_meaning cell_of (directive_in f)
 
 abbrev pub cell_with : CellWord × Location → CellDirective
 cell_with z = record { location = z.1; word = z.0 }
@@ -66,10 +66,10 @@ unit_table = (codes "s", units.Second) ∷ (codes "ms", units.Millisecond)
     ∷ (codes "ps", units.Picosecond) ∷ (codes "fs", units.Femtosecond) ∷ []
 
 unfoldable pub unit_of : List ℕ → Option TimeUnit
-unit_of name = named unit_table name
+unit_of name = word_entry unit_table name
 
 abbrev pub unit_in : Form → Option TimeUnit
-unit_in f = chosen unit_of (name_in f)
+unit_in f = word_meaning unit_of (name_in f)
 
 -- a power of ten by a factor
 abbrev pub by_factor : ScaleFactor → ℤ → ℤ → ℤ → ℤ
@@ -117,7 +117,7 @@ implicit_table = (codes "wire", implicit.Wire) ∷ (codes "tri", implicit.Tri)
     ∷ (codes "trior", implicit.Trior) ∷ (codes "trireg", implicit.Trireg) ∷ []
 
 unfoldable pub implicit_of : List ℕ → Option ImplicitNetType
-implicit_of word = named implicit_table word
+implicit_of word = word_entry implicit_table word
 
 -- `none`, which is a name
 unfoldable pub none_of : List ℕ → Option (Option ImplicitNetType)

@@ -14,7 +14,7 @@ use Rattle.v_tree.specs.declared.drives.Delay.TheVariants as delays
 use Rattle.v_tree.specs.declared.drives.DelaySpec.{DelaySpec}
 use Rattle.v_tree.specs.Written.{Form}
 use Rattle.v_tree.specs.Written as form
-use Rattle.v_parser.specs.Input.{Reader, ◌<$>◌, ◌&◌, token, mark, skip, is_mark, optional, choice, separated}
+use Rattle.v_parser.specs.Input.{Reader, ◌<$>◌, ◌&◌, token, mark, skip, is_mark, optional, choice, comma_list}
 use Rattle.v_parser.specs.Expressions.{sees_mark}
 use Rattle.v_parser.specs.Words.{level_in, sees_level, charge_in}
 
@@ -45,12 +45,12 @@ unfoldable pub pull_levels : Reader PullLevels
 pull_levels = pull_of <$> (mark 40 & level & optional (sees_mark 44) second_level & skip 41)
 
 -- a word for a charge, without its location
-unfoldable pub charge_named : Reader Charge
-charge_named = (λ z. z.0) <$> token charge_in
+unfoldable pub charge_word : Reader Charge
+charge_word = (λ z. z.0) <$> token charge_in
 
 -- `( charge )`
 unfoldable pub charge : Reader Charge
-charge = (λ z. z.1.0) <$> (skip 40 & charge_named & skip 41)
+charge = (λ z. z.1.0) <$> (skip 40 & charge_word & skip 41)
 
 -- a number or a decimal
 abbrev pub amount_in : Form → Option Amount
@@ -79,7 +79,7 @@ delay_value = (λ z. delay_value_with z.0 z.1) <$> (amount & optional (sees_mark
 
 -- `( value , .. )`
 unfoldable pub delay_values : Reader Delay
-delay_values = (λ z. delays.Values z.1.0) <$> (skip 40 & separated delay_value & skip 41)
+delay_values = (λ z. delays.Values z.1.0) <$> (skip 40 & comma_list delay_value & skip 41)
 
 -- an amount, or values in parentheses
 abbrev pub delay : Reader Delay

@@ -10,7 +10,7 @@ use Rattle.v_tree.specs.declared.expressions.Expr.TheVariants as expr
 use Rattle.v_tree.specs.declared.expressions.Target.{Target}
 use Rattle.v_tree.specs.declared.expressions.Target.TheVariants as target
 use Rattle.v_tree.specs.Written.{Form}
-use Rattle.v_parser.specs.Input.{Reader, ◌<$>◌, ◌&◌, mark, skip, name, number, placed_number, placed_based, is_mark, is_name, is_number, optional, choice, separated}
+use Rattle.v_parser.specs.Input.{Reader, ◌<$>◌, ◌&◌, mark, skip, name, number, placed_number, placed_based, is_mark, is_name, is_number, optional, choice, comma_list}
 
 -- the first of two tokens is the mark
 abbrev pub sees_mark : ℕ → Form → Form → Bool
@@ -59,11 +59,11 @@ unfoldable pub expr_at : ℕ → Reader Expr
 expr_at zero = atom
 expr_at (suc depth) =
     choice (sees_mark 123) ((λ (z : Location × (List Expr × Unit {0})). expr.Concat z.0 z.1.0)
-    <$> (mark 123 & separated (expr_at depth) & skip 125)) atom
+    <$> (mark 123 & comma_list (expr_at depth) & skip 125)) atom
 
 -- a target with concatenations so deep at most
 unfoldable pub target_at : ℕ → Reader Target
 target_at zero = target.Pick <$> pick
 target_at (suc depth) =
     choice (sees_mark 123) ((λ (z : Location × (List Target × Unit {0})). target.Concat z.0 z.1.0)
-    <$> (mark 123 & separated (target_at depth) & skip 125)) (target.Pick <$> pick)
+    <$> (mark 123 & comma_list (target_at depth) & skip 125)) (target.Pick <$> pick)

@@ -9,7 +9,8 @@ use Rattle.v_lexer.specs.declared.values.Literal.{Literal}
 use Rattle.v_lexer.specs.Words.{left_out_words}
 use Rattle.v_tree.specs.declared.locations.Location.{Location}
 use Rattle.v_tree.specs.declared.locations.Name.{Name}
-use Rattle.v_tree.specs.Written.{Form, form_of, slice_of}
+use Rattle.v_lexer.specs.Sound.{bytes_of}
+use Rattle.v_tree.specs.Written.{Form, form_of}
 use Rattle.v_tree.specs.Written as form
 use Rattle.v_parser.specs.declared.fault.ParseFault.{ParseFault}
 use Rattle.v_parser.specs.declared.fault.ParseFault.TheVariants.{Unsupported, Syntax, Memory}
@@ -56,7 +57,7 @@ kind_of i = kind_in i.tokens
 
 abbrev pub bytes_in : List ℕ → List Token → List ℕ
 bytes_in text [] = []
-bytes_in text (token ∷ tokens) = slice_of text token
+bytes_in text (token ∷ tokens) = bytes_of text token
 
 -- the bytes of the next token
 unfoldable pub bytes : Input → List ℕ
@@ -74,7 +75,7 @@ is_left_out _ bytes = false
 
 abbrev pub is_unsupported_in : List ℕ → List Token → Bool
 is_unsupported_in text [] = false
-is_unsupported_in text (token ∷ tokens) = is_left_out token.kind (slice_of text token)
+is_unsupported_in text (token ∷ tokens) = is_left_out token.kind (bytes_of text token)
 
 -- why the next token is refused
 unfoldable pub refusal : Input → ParseFault
@@ -243,8 +244,8 @@ unfoldable pub choice : {A : Type 0} → (Form → Form → Bool) → Reader A �
 choice sees p q = λ i. if sees (front i) (front (next i)) then p i else q i
 
 -- what is left after a comma, where one comes next
-abbrev pub passed_comma : Input → Input
-passed_comma i = if is_mark 44 (front i) then next i else i
+abbrev pub after_comma : Input → Input
+after_comma i = if is_mark 44 (front i) then next i else i
 
 -- parts, each behind a comma, put behind those that were found, in so many turns at most
 unfoldable pub commas_from : {A : Type 0} → Reader A → ℕ → List A → Reader (List A)
@@ -257,8 +258,8 @@ unfoldable pub commas : {A : Type 0} → Reader A → List A → Reader (List A)
 commas p found = λ i. commas_from p (length i.tokens) found i
 
 -- one part or several, with commas between
-unfoldable pub separated : {A : Type 0} → Reader A → Reader (List A)
-separated p = p >>= λ x. commas p (x ∷ [])
+unfoldable pub comma_list : {A : Type 0} → Reader A → Reader (List A)
+comma_list p = p >>= λ x. commas p (x ∷ [])
 
 -- parts up to a token that ends them, in so many turns at most
 unfoldable pub many_from : {A : Type 0} → (Form → Bool) → Reader A → ℕ → List A → Reader (List A)

@@ -15,7 +15,7 @@ use Rattle.v_tree.specs.declared.modules.Item.{Item}
 use Rattle.v_tree.specs.declared.modules.Item.TheVariants as item
 use Rattle.v_tree.specs.declared.modules.Module.{Module}
 use Rattle.v_tree.specs.Written.{Form}
-use Rattle.v_parser.specs.Input.{Reader, ◌<$>◌, ◌&◌, pure, token, skip, skip_word, name, is_mark, is_name, is_word, optional, choice, commas, separated, many}
+use Rattle.v_parser.specs.Input.{Reader, ◌<$>◌, ◌&◌, pure, token, skip, skip_word, name, is_mark, is_name, is_word, optional, choice, commas, comma_list, many}
 use Rattle.v_parser.specs.Expressions.{sees_mark, sees_name, range}
 use Rattle.v_parser.specs.Words.{direction_in, sees_direction, sees_net_type, opening_in, sees_logic, sees_switch, sees_tran, sees_pull}
 use Rattle.v_parser.specs.Declarations.{net_type, port_decl, net_decl, trireg_decl, assign_item}
@@ -50,14 +50,14 @@ unfoldable pub gates : Reader Item
 gates = choice sees_logic (item.Gates <$> logic_item) switches
 
 -- assignments, gates or instances
-unfoldable pub assigned : Reader Item
-assigned = choice (sees_word (codes "assign")) (item.Assign <$> assign_item) gates
+unfoldable pub assigns : Reader Item
+assigns = choice (sees_word (codes "assign")) (item.Assign <$> assign_item) gates
 
-unfoldable pub charged : Reader Item
-charged = choice (sees_word (codes "trireg")) (item.Trireg <$> trireg_decl) assigned
+unfoldable pub triregs : Reader Item
+triregs = choice (sees_word (codes "trireg")) (item.Trireg <$> trireg_decl) assigns
 
 unfoldable pub nets : Reader Item
-nets = choice sees_net_type (item.Nets <$> net_decl) charged
+nets = choice sees_net_type (item.Nets <$> net_decl) triregs
 
 -- an item of a module
 unfoldable pub module_item : Reader Item
@@ -90,7 +90,7 @@ empty_ports = (λ z. ports.Empty) <$> (skip 40 & skip 41)
 
 -- `( Name , .. )`
 unfoldable pub named_ports : Reader Ports
-named_ports = (λ z. ports.Names z.1.0) <$> (skip 40 & separated name & skip 41)
+named_ports = (λ z. ports.Names z.1.0) <$> (skip 40 & comma_list name & skip 41)
 
 -- `( port , .. )`
 unfoldable pub ansi_ports : Reader Ports

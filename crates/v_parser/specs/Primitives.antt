@@ -18,31 +18,31 @@ use Rattle.udp_table.specs.declared.symbols.Sym.{Sym}
 use Rattle.udp_table.specs.declared.symbols.Sym.TheVariants as syms
 use Rattle.udp_table.specs.declared.rows.UdpRow.{UdpRow}
 use Rattle.v_tree.specs.Written.{Form}
-use Rattle.v_parser.specs.Input.{Reader, ◌<$>◌, ◌&◌, token, here, skip, skip_word, skip_symbol, word, name, placed_number, placed_based, is_symbol, symbol_in, is_word, optional, choice, commas, separated, many, some}
+use Rattle.v_parser.specs.Input.{Reader, ◌<$>◌, ◌&◌, token, here, skip, skip_word, skip_symbol, word, name, placed_number, placed_based, is_symbol, symbol_in, is_word, optional, choice, commas, comma_list, many, some}
 use Rattle.v_parser.specs.Expressions.{sees_mark, sees_number}
 use Rattle.v_parser.specs.Modules.{sees_word}
 
 -- ---- symbols
 
 -- what a symbol stands for by a table
-abbrev pub coded : {A : Type 0} → List (ℕ × A) → ℕ → Option A
-coded [] byte = None
-coded (entry ∷ entries) byte = if byte == entry.0 then Some entry.1 else coded entries byte
+abbrev pub byte_entry : {A : Type 0} → List (ℕ × A) → ℕ → Option A
+byte_entry [] byte = None
+byte_entry (entry ∷ entries) byte = if byte == entry.0 then Some entry.1 else byte_entry entries byte
 
 -- what a token stands for where it is a symbol
-abbrev pub meant : {A : Type 0} → (ℕ → Option A) → Option ℕ → Option A
-meant stands_for None = None
-meant stands_for (Some byte) = stands_for byte
+abbrev pub symbol_meaning : {A : Type 0} → (ℕ → Option A) → Option ℕ → Option A
+symbol_meaning stands_for None = None
+symbol_meaning stands_for (Some byte) = stands_for byte
 
 unfoldable pub base_table : List (ℕ × Base)
 base_table = (48, bases.Zero) ∷ (49, bases.One) ∷ (120, bases.X) ∷ (63, bases.Any)
     ∷ (98, bases.Both) ∷ []
 
 unfoldable pub base_of : ℕ → Option Base
-base_of byte = coded base_table byte
+base_of byte = byte_entry base_table byte
 
 abbrev pub base_in : Form → Option Base
-base_in f = meant base_of (symbol_in f)
+base_in f = symbol_meaning base_of (symbol_in f)
 
 -- the symbols that stand for a field alone
 unfoldable pub sym_table : List (ℕ × Sym)
@@ -51,10 +51,10 @@ sym_table = (48, syms.Zero) ∷ (49, syms.One) ∷ (120, syms.X) ∷ (63, syms.A
     ∷ (42, syms.Change) ∷ []
 
 unfoldable pub sym_of : ℕ → Option Sym
-sym_of byte = coded sym_table byte
+sym_of byte = byte_entry sym_table byte
 
 abbrev pub sym_in : Form → Option Sym
-sym_in f = meant sym_of (symbol_in f)
+sym_in f = symbol_meaning sym_of (symbol_in f)
 
 -- the first of two tokens is the symbol
 abbrev pub sees_symbol : ℕ → Form → Form → Bool
@@ -146,7 +146,7 @@ names_of z = ports.Names z.1.0
 
 -- `( Name , .. )`
 unfoldable pub named_header : Reader UdpPorts
-named_header = names_of <$> (skip 40 & separated name & skip 41)
+named_header = names_of <$> (skip 40 & comma_list name & skip 41)
 
 abbrev pub declared_of : Unit {0}
     × (Unit {0} × (Bool × (Name × (Option Lit × (List UdpInput × Unit {0}))))) → UdpPorts
@@ -180,7 +180,7 @@ inputs_of z = item.Input z.0 z.1.0
 
 -- `input Name , .. ;`
 unfoldable pub input_item : Reader UdpItem
-input_item = inputs_of <$> (word (codes "input") & separated name & skip 59)
+input_item = inputs_of <$> (word (codes "input") & comma_list name & skip 59)
 
 abbrev pub reg_of : Location × (Name × Unit {0}) → UdpItem
 reg_of z = item.Reg z.0 z.1.0

@@ -7,7 +7,7 @@ use Rattle.v_tree.specs.declared.modules.Description.{Description}
 use Rattle.v_tree.specs.declared.modules.File.{File}
 use Rattle.v_tree.specs.declared.primitives.UdpDecl.{UdpDecl}
 use Rattle.v_tree.specs.Tree.{modules_among, udps_among, directives_among}
-use Rattle.v_tree.specs.Written.{slice_of}
+use Rattle.v_lexer.specs.Sound.{bytes_of}
 use Rattle.v_parser.specs.declared.fault.ParseFault.{ParseFault}
 use Rattle.v_parser.specs.declared.fault.ParseFault.TheVariants.{Unsupported, Syntax, Memory}
 use Rattle.v_parser.specs.Input.{Input, Outcome, is_left_out}
@@ -64,7 +64,7 @@ IsUnlessMemory tree (Err e) = e ≡ Memory
 -- the refused token is one of the list: as unsupported exactly where the grammar leaves such a token out
 abbrev pub IsRefusalOf : List ℕ → List Token → ParseFault → Type 0
 IsRefusalOf text tokens (Unsupported n) = (token : Token) × (slice_get tokens n ≡ Some token)
-    × (is_left_out token.kind (slice_of text token) ≡ true)
+    × (is_left_out token.kind (bytes_of text token) ≡ true)
 IsRefusalOf text tokens (Syntax n) = (token : Token) × (slice_get tokens n ≡ Some token)
-    × (is_left_out token.kind (slice_of text token) ≡ false)
+    × (is_left_out token.kind (bytes_of text token) ≡ false)
 IsRefusalOf text tokens Memory = Unit {0}

@@ -26,14 +26,14 @@ use Rattle.v_tree.specs.Written.{Form}
 use Rattle.v_parser.specs.Input.{word_in}
 
 -- what a word stands for by a table
-abbrev pub named : {A : Type 0} → List (List ℕ × A) → List ℕ → Option A
-named [] word = None
-named (entry ∷ entries) word = if bytes_eq word entry.0 then Some entry.1 else named entries word
+abbrev pub word_entry : {A : Type 0} → List (List ℕ × A) → List ℕ → Option A
+word_entry [] word = None
+word_entry (entry ∷ entries) word = if bytes_eq word entry.0 then Some entry.1 else word_entry entries word
 
 -- what a token stands for where it is a word
-abbrev pub chosen : {A : Type 0} → (List ℕ → Option A) → Option (List ℕ) → Option A
-chosen stands_for None = None
-chosen stands_for (Some word) = stands_for word
+abbrev pub word_meaning : {A : Type 0} → (List ℕ → Option A) → Option (List ℕ) → Option A
+word_meaning stands_for None = None
+word_meaning stands_for (Some word) = stands_for word
 
 abbrev pub level_with : Strength → Bool → Level
 level_with strength of_one = record { strength = strength; of_one = of_one }
@@ -43,10 +43,10 @@ direction_table = (codes "input", direction.Input) ∷ (codes "output", directio
     ∷ (codes "inout", direction.Inout) ∷ []
 
 unfoldable pub direction_of : List ℕ → Option Direction
-direction_of word = named direction_table word
+direction_of word = word_entry direction_table word
 
 abbrev pub direction_in : Form → Option Direction
-direction_in f = chosen direction_of (word_in f)
+direction_in f = word_meaning direction_of (word_in f)
 
 -- the first of two tokens stands for one
 abbrev pub sees_direction : Form → Form → Bool
@@ -60,10 +60,10 @@ net_type_table = (codes "wire", net_type.Wire) ∷ (codes "tri", net_type.Tri)
     ∷ (codes "supply1", net_type.Supply1) ∷ []
 
 unfoldable pub net_type_of : List ℕ → Option NetType
-net_type_of word = named net_type_table word
+net_type_of word = word_entry net_type_table word
 
 abbrev pub net_type_in : Form → Option NetType
-net_type_in f = chosen net_type_of (word_in f)
+net_type_in f = word_meaning net_type_of (word_in f)
 
 -- the first of two tokens stands for one
 abbrev pub sees_net_type : Form → Form → Bool
@@ -73,10 +73,10 @@ unfoldable pub vector_word_table : List (List ℕ × VectorWord)
 vector_word_table = (codes "vectored", vector.Vectored) ∷ (codes "scalared", vector.Scalared) ∷ []
 
 unfoldable pub vector_word_of : List ℕ → Option VectorWord
-vector_word_of word = named vector_word_table word
+vector_word_of word = word_entry vector_word_table word
 
 abbrev pub vector_word_in : Form → Option VectorWord
-vector_word_in f = chosen vector_word_of (word_in f)
+vector_word_in f = word_meaning vector_word_of (word_in f)
 
 -- the first of two tokens stands for one
 abbrev pub sees_vector_word : Form → Form → Bool
@@ -87,10 +87,10 @@ charge_table = (codes "small", charge.Small) ∷ (codes "medium", charge.Medium)
     ∷ (codes "large", charge.Large) ∷ []
 
 unfoldable pub charge_of : List ℕ → Option Charge
-charge_of word = named charge_table word
+charge_of word = word_entry charge_table word
 
 abbrev pub charge_in : Form → Option Charge
-charge_in f = chosen charge_of (word_in f)
+charge_in f = word_meaning charge_of (word_in f)
 
 unfoldable pub logic_table : List (List ℕ × LogicGate)
 logic_table = (codes "and", logic.And) ∷ (codes "nand", logic.Nand) ∷ (codes "or", logic.Or)
@@ -100,10 +100,10 @@ logic_table = (codes "and", logic.And) ∷ (codes "nand", logic.Nand) ∷ (codes
     ∷ (codes "notif1", logic.Notif1) ∷ []
 
 unfoldable pub logic_of : List ℕ → Option LogicGate
-logic_of word = named logic_table word
+logic_of word = word_entry logic_table word
 
 abbrev pub logic_in : Form → Option LogicGate
-logic_in f = chosen logic_of (word_in f)
+logic_in f = word_meaning logic_of (word_in f)
 
 -- the first of two tokens stands for one
 abbrev pub sees_logic : Form → Form → Bool
@@ -117,10 +117,10 @@ switch_table = (codes "nmos", switch.Nmos) ∷ (codes "pmos", switch.Pmos)
     ∷ (codes "rtranif1", switch.Rtranif1) ∷ []
 
 unfoldable pub switch_of : List ℕ → Option Switch
-switch_of word = named switch_table word
+switch_of word = word_entry switch_table word
 
 abbrev pub switch_in : Form → Option Switch
-switch_in f = chosen switch_of (word_in f)
+switch_in f = word_meaning switch_of (word_in f)
 
 -- the first of two tokens stands for one
 abbrev pub sees_switch : Form → Form → Bool
@@ -130,10 +130,10 @@ unfoldable pub tran_table : List (List ℕ × TranGate)
 tran_table = (codes "tran", tran.Tran) ∷ (codes "rtran", tran.Rtran) ∷ []
 
 unfoldable pub tran_of : List ℕ → Option TranGate
-tran_of word = named tran_table word
+tran_of word = word_entry tran_table word
 
 abbrev pub tran_in : Form → Option TranGate
-tran_in f = chosen tran_of (word_in f)
+tran_in f = word_meaning tran_of (word_in f)
 
 -- the first of two tokens stands for one
 abbrev pub sees_tran : Form → Form → Bool
@@ -143,10 +143,10 @@ unfoldable pub pull_table : List (List ℕ × PullGate)
 pull_table = (codes "pullup", pull.Pullup) ∷ (codes "pulldown", pull.Pulldown) ∷ []
 
 unfoldable pub pull_of : List ℕ → Option PullGate
-pull_of word = named pull_table word
+pull_of word = word_entry pull_table word
 
 abbrev pub pull_in : Form → Option PullGate
-pull_in f = chosen pull_of (word_in f)
+pull_in f = word_meaning pull_of (word_in f)
 
 -- the first of two tokens stands for one
 abbrev pub sees_pull : Form → Form → Bool
@@ -156,10 +156,10 @@ unfoldable pub opening_table : List (List ℕ × ModuleWord)
 opening_table = (codes "module", opening.Module) ∷ (codes "macromodule", opening.Macromodule) ∷ []
 
 unfoldable pub opening_of : List ℕ → Option ModuleWord
-opening_of word = named opening_table word
+opening_of word = word_entry opening_table word
 
 abbrev pub opening_in : Form → Option ModuleWord
-opening_in f = chosen opening_of (word_in f)
+opening_in f = word_meaning opening_of (word_in f)
 
 unfoldable pub level_table : List (List ℕ × Level)
 level_table = (codes "supply0", level_with Supply false)
@@ -170,10 +170,10 @@ level_table = (codes "supply0", level_with Supply false)
     ∷ (codes "highz1", level_with Highz true) ∷ []
 
 unfoldable pub level_of : List ℕ → Option Level
-level_of word = named level_table word
+level_of word = word_entry level_table word
 
 abbrev pub level_in : Form → Option Level
-level_in f = chosen level_of (word_in f)
+level_in f = word_meaning level_of (word_in f)
 
 -- the first of two tokens stands for one
 abbrev pub sees_level : Form → Form → Bool

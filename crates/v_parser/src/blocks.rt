@@ -17,9 +17,9 @@ fn ends_block(cursor: &Cursor<'_>) -> bool
 }
 
 /// Passes over the tokens before the end of a block, and tells how many they are.
-#[tactic(auto, unfolding(crate::specs::Blocks::passed, crate::specs::Blocks::passed_from))]
-fn passed(cursor: &mut Cursor<'_>) -> Result<u32, ParseFault>
-    ensures { Reads (spec.passed cursor.old) result cursor.new }
+#[tactic(auto, unfolding(crate::specs::Blocks::block_length, crate::specs::Blocks::block_length_from))]
+fn block_length(cursor: &mut Cursor<'_>) -> Result<u32, ParseFault>
+    ensures { Reads (spec.block_length cursor.old) result cursor.new }
 {
     let mut count: u32 = 0;
     for _ in 0..cursor.left() {
@@ -38,7 +38,7 @@ pub fn specify_block(cursor: &mut Cursor<'_>) -> Result<SpecifyBlock, ParseFault
     ensures { Reads (spec.specify_block cursor.old) result cursor.new }
 {
     let location = cursor.word(b"specify")?;
-    let token_count = passed(cursor)?;
+    let token_count = block_length(cursor)?;
     cursor.skip_word(b"endspecify")?;
     Ok(SpecifyBlock {
         location,

@@ -2,7 +2,7 @@
 
 ghost use Rattle.std.specs.Prelude.{◌≡◌, ◌<◌, is_some, IfOk, ◌^◌, length, take, drop, ◌-◌};
 ghost use Rattle.v_lexer.specs.declared.token.TokenKind.TheVariants.{End};
-ghost use Rattle.v_tree.specs.Written.{slice_of, lower};
+ghost use Rattle.v_tree.specs.Written.{lower};
 ghost use Rattle.v_lexer.specs.Bytes.{first};
 ghost use Rattle.std.specs.Option.{option_copied};
 ghost use Rattle.std.specs.Str.{bytes_eq};

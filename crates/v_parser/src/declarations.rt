@@ -11,7 +11,7 @@ use crate::cursor::Cursor;
 use crate::drives::{charge_if_there, delay_if_there, drive_in_parentheses};
 use crate::expressions::{expr_at, range, target_at};
 use crate::fault::ParseFault;
-use crate::lists::{Part, separated};
+use crate::lists::{Part, comma_list};
 use crate::words::{sees, word_for};
 use v_tree::{
     AssignItem, DeclaredNames, Direction, Expr, Name, NetDecl, NetType, Pair, PortDecl,
@@ -86,7 +86,7 @@ pub fn port_decl(cursor: &mut Cursor<'_>) -> Result<PortDecl, ParseFault>
     let (direction, location) = word_for::<Direction>(cursor)?;
     let net_type = net_type_if_there(cursor)?;
     let range = range_if_there(cursor)?;
-    let names = separated(cursor)?;
+    let names = comma_list(cursor)?;
     cursor.skip(b';')?;
     Ok(PortDecl {
         location,
@@ -98,9 +98,9 @@ pub fn port_decl(cursor: &mut Cursor<'_>) -> Result<PortDecl, ParseFault>
 }
 
 /// A word before a range, without its location.
-#[tactic(auto, unfolding(crate::specs::Declarations::vector_word_named))]
-fn vector_word_named(cursor: &mut Cursor<'_>) -> Result<VectorWord, ParseFault>
-    ensures { Reads (spec.vector_word_named cursor.old) result cursor.new }
+#[tactic(auto, unfolding(crate::specs::Declarations::range_word))]
+fn range_word(cursor: &mut Cursor<'_>) -> Result<VectorWord, ParseFault>
+    ensures { Reads (spec.range_word cursor.old) result cursor.new }
 {
     let (word, _) = word_for::<VectorWord>(cursor)?;
     Ok(word)
@@ -109,11 +109,11 @@ fn vector_word_named(cursor: &mut Cursor<'_>) -> Result<VectorWord, ParseFault>
 /// A word before a range, where one comes next.
 #[tactic(auto, unfolding(crate::specs::Input::optional))]
 fn vector_word_if_there(cursor: &mut Cursor<'_>) -> Result<Option<VectorWord>, ParseFault>
-    ensures { Reads (input.optional words.sees_vector_word spec.vector_word_named cursor.old)
+    ensures { Reads (input.optional words.sees_vector_word spec.range_word cursor.old)
         result cursor.new }
 {
     if sees::<VectorWord>(cursor) {
-        Ok(Some(vector_word_named(cursor)?))
+        Ok(Some(range_word(cursor)?))
     } else {
         Ok(None)
     }
@@ -169,9 +169,9 @@ fn declared_names(cursor: &mut Cursor<'_>) -> Result<DeclaredNames, ParseFault>
     ensures { Reads (spec.declared_names cursor.old) result cursor.new }
 {
     if cursor.behind().sees_mark(b'=') {
-        Ok(DeclaredNames::Valued(separated(cursor)?))
+        Ok(DeclaredNames::Valued(comma_list(cursor)?))
     } else {
-        Ok(DeclaredNames::Names(separated(cursor)?))
+        Ok(DeclaredNames::Names(comma_list(cursor)?))
     }
 }
 
@@ -205,7 +205,7 @@ pub fn trireg_decl(cursor: &mut Cursor<'_>) -> Result<TriregDecl, ParseFault>
     let charge = charge_if_there(cursor)?;
     let vector_range = vector_range_if_there(cursor)?;
     let delay = delay_if_there(cursor)?;
-    let names = separated(cursor)?;
+    let names = comma_list(cursor)?;
     cursor.skip(b';')?;
     Ok(TriregDecl {
         location,
@@ -245,7 +245,7 @@ pub fn assign_item(cursor: &mut Cursor<'_>) -> Result<AssignItem, ParseFault>
     let location = cursor.word(b"assign")?;
     let drive = drive_in_parentheses(cursor)?;
     let delay = delay_if_there(cursor)?;
-    let pairs = separated(cursor)?;
+    let pairs = comma_list(cursor)?;
     cursor.skip(b';')?;
     Ok(AssignItem {
         location,

@@ -10,7 +10,7 @@ ghost use Rattle.v_tree.specs.Tree.{module_of, udp_of, directive_of};
 use crate::cursor::Cursor;
 use crate::directives::directive;
 use crate::fault::ParseFault;
-use crate::lists::listed;
+use crate::lists::into_items;
 use crate::modules::module_at;
 use crate::primitives::udp;
 use std::alloc::AllocError;
@@ -64,7 +64,7 @@ fn put(
 pub type Lists = (ModuleList, UdpDeclList, DirectiveList);
 
 /// Modules, primitives and directives up to the end of the text.
-fn sorted(cursor: &mut Cursor<'_>) -> Result<Lists, ParseFault>
+fn sort_descriptions(cursor: &mut Cursor<'_>) -> Result<Lists, ParseFault>
     ensures { ReadsSorted
         (input.many input.is_finish spec.description cursor.old) result cursor.new }
 {
@@ -73,19 +73,27 @@ fn sorted(cursor: &mut Cursor<'_>) -> Result<Lists, ParseFault>
     let mut directives = Vec::new(cursor.alloc());
     for _ in 0..cursor.left() {
         if cursor.sees_finish() {
-            return Ok((listed(modules), listed(udps), listed(directives)));
+            return Ok((
+                into_items(modules),
+                into_items(udps),
+                into_items(directives),
+            ));
         }
         let found = description(cursor)?;
         put(&mut modules, &mut udps, &mut directives, found)?;
     }
-    Ok((listed(modules), listed(udps), listed(directives)))
+    Ok((
+        into_items(modules),
+        into_items(udps),
+        into_items(directives),
+    ))
 }
 
 /// Modules, primitives and directives, and the end of the text.
 pub fn descriptions(cursor: &mut Cursor<'_>) -> Result<Lists, ParseFault>
     ensures { ReadsSorted (spec.descriptions cursor.old) result cursor.new }
 {
-    let lists = sorted(cursor)?;
+    let lists = sort_descriptions(cursor)?;
     cursor.finish()?;
     Ok(lists)
 }

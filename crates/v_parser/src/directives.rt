@@ -7,7 +7,7 @@ ghost use Rattle.v_parser.specs.Directives as spec;
 
 use crate::cursor::{Cursor, is};
 use crate::fault::ParseFault;
-use crate::words::{Meaning, meant_by};
+use crate::words::{Meaning, meaning_of};
 use v_tree::{CellDirective, CellWord, DefaultNettype, Directive, ImplicitNetType, Timescale};
 
 /// The number that a scale begins with.
@@ -107,7 +107,7 @@ impl Meaning for ImplicitNetType {
 pub fn cell(cursor: &mut Cursor<'_>) -> Result<CellDirective, ParseFault>
     ensures { Reads (spec.cell cursor.old) result cursor.new }
 {
-    match meant_by::<CellWord>(cursor.seen_directive()) {
+    match meaning_of::<CellWord>(cursor.seen_directive()) {
         Some(word) => {
             let location = cursor.location();
             cursor.advance();
@@ -162,7 +162,7 @@ fn factor(cursor: &mut Cursor<'_>) -> Result<ScaleFactor, ParseFault>
 fn unit(cursor: &mut Cursor<'_>) -> Result<TimeUnit, ParseFault>
     ensures { Reads (spec.unit cursor.old) result cursor.new }
 {
-    match meant_by::<TimeUnit>(cursor.seen_name()) {
+    match meaning_of::<TimeUnit>(cursor.seen_name()) {
         Some(unit) => {
             cursor.advance();
             Ok(unit)
@@ -237,7 +237,7 @@ fn default_seen(cursor: &Cursor<'_>) -> Option<Option<ImplicitNetType>>
     if let Some(name) = cursor.seen_name() {
         return none_of(name);
     }
-    match meant_by::<ImplicitNetType>(cursor.seen_word()) {
+    match meaning_of::<ImplicitNetType>(cursor.seen_word()) {
         Some(net_type) => Some(Some(net_type)),
         None => None,
     }

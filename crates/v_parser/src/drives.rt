@@ -8,7 +8,7 @@ ghost use Rattle.v_parser.specs.Expressions.{sees_mark};
 
 use crate::cursor::Cursor;
 use crate::fault::ParseFault;
-use crate::lists::{Part, separated};
+use crate::lists::{Part, comma_list};
 use crate::words::{sees, word_for};
 use v_tree::{Amount, Charge, Delay, DelaySpec, DelayValue, DriveStrength, Level, PullLevels};
 
@@ -120,9 +120,9 @@ pub fn pull_levels_if_there(cursor: &mut Cursor<'_>) -> Result<Option<PullLevels
 }
 
 /// A word for a charge, without its location.
-#[tactic(auto, unfolding(crate::specs::Drives::charge_named))]
-fn charge_named(cursor: &mut Cursor<'_>) -> Result<Charge, ParseFault>
-    ensures { Reads (spec.charge_named cursor.old) result cursor.new }
+#[tactic(auto, unfolding(crate::specs::Drives::charge_word))]
+fn charge_word(cursor: &mut Cursor<'_>) -> Result<Charge, ParseFault>
+    ensures { Reads (spec.charge_word cursor.old) result cursor.new }
 {
     let (charge, _) = word_for::<Charge>(cursor)?;
     Ok(charge)
@@ -134,7 +134,7 @@ fn charge(cursor: &mut Cursor<'_>) -> Result<Charge, ParseFault>
     ensures { Reads (spec.charge cursor.old) result cursor.new }
 {
     cursor.skip(b'(')?;
-    let charge = charge_named(cursor)?;
+    let charge = charge_word(cursor)?;
     cursor.skip(b')')?;
     Ok(charge)
 }
@@ -203,7 +203,7 @@ fn delay_values(cursor: &mut Cursor<'_>) -> Result<Delay, ParseFault>
     ensures { Reads (spec.delay_values cursor.old) result cursor.new }
 {
     cursor.skip(b'(')?;
-    let values = separated(cursor)?;
+    let values = comma_list(cursor)?;
     cursor.skip(b')')?;
     Ok(Delay::Values(values))
 }

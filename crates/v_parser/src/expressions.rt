@@ -7,7 +7,7 @@ ghost use Rattle.v_parser.specs.Expressions as spec;
 
 use crate::cursor::Cursor;
 use crate::fault::ParseFault;
-use crate::lists::{listed, passes_comma};
+use crate::lists::{into_items, passes_comma};
 use v_tree::{Expr, ExprList, Pick, RangeBounds, Select, Target, TargetList};
 
 /// `[ number : number ]`
@@ -96,19 +96,19 @@ fn atom(cursor: &mut Cursor<'_>) -> Result<Expr, ParseFault>
 
 /// Expressions with commas between, with concatenations so deep at most.
 #[cycle(expr)]
-#[tactic(auto, unfolding(crate::specs::Input::separated, crate::specs::Input::commas, crate::specs::Input::commas_from))]
+#[tactic(auto, unfolding(crate::specs::Input::comma_list, crate::specs::Input::commas, crate::specs::Input::commas_from))]
 fn exprs_at(cursor: &mut Cursor<'_>, depth: u32) -> Result<ExprList, ParseFault>
-    ensures { Reads (input.separated (spec.expr_at depth) cursor.old) result cursor.new }
+    ensures { Reads (input.comma_list (spec.expr_at depth) cursor.old) result cursor.new }
 {
     let mut parts = Vec::new(cursor.alloc());
     parts.push(expr_at(cursor, depth)?)?;
     for _ in 0..cursor.left() {
         if !passes_comma(cursor) {
-            return Ok(listed(parts));
+            return Ok(into_items(parts));
         }
         parts.push(expr_at(cursor, depth)?)?;
     }
-    Ok(listed(parts))
+    Ok(into_items(parts))
 }
 
 /// An expression with concatenations so deep at most.
@@ -131,19 +131,19 @@ pub fn expr_at(cursor: &mut Cursor<'_>, depth: u32) -> Result<Expr, ParseFault>
 
 /// Targets with commas between, with concatenations so deep at most.
 #[cycle(target)]
-#[tactic(auto, unfolding(crate::specs::Input::separated, crate::specs::Input::commas, crate::specs::Input::commas_from))]
+#[tactic(auto, unfolding(crate::specs::Input::comma_list, crate::specs::Input::commas, crate::specs::Input::commas_from))]
 fn targets_at(cursor: &mut Cursor<'_>, depth: u32) -> Result<TargetList, ParseFault>
-    ensures { Reads (input.separated (spec.target_at depth) cursor.old) result cursor.new }
+    ensures { Reads (input.comma_list (spec.target_at depth) cursor.old) result cursor.new }
 {
     let mut parts = Vec::new(cursor.alloc());
     parts.push(target_at(cursor, depth)?)?;
     for _ in 0..cursor.left() {
         if !passes_comma(cursor) {
-            return Ok(listed(parts));
+            return Ok(into_items(parts));
         }
         parts.push(target_at(cursor, depth)?)?;
     }
-    Ok(listed(parts))
+    Ok(into_items(parts))
 }
 
 /// A target with concatenations so deep at most.

@@ -11,7 +11,7 @@ use crate::cursor::Cursor;
 use crate::declarations::expr;
 use crate::drives::{delay_if_there, drive_if_there, pull_levels_if_there};
 use crate::fault::ParseFault;
-use crate::lists::{Part, separated};
+use crate::lists::{Part, comma_list};
 use crate::words::word_for;
 use v_tree::{
     Connection, Connections, Expr, GateItem, GateKind, Inst, Instance, LogicGate, Name, PullGate,
@@ -47,7 +47,7 @@ fn terms(cursor: &mut Cursor<'_>) -> Result<Terms, ParseFault>
 {
     let name = name_if_there(cursor)?;
     let paren = cursor.mark(b'(')?;
-    let terminals = separated(cursor)?;
+    let terminals = comma_list(cursor)?;
     cursor.skip(b')')?;
     Ok(Terms {
         name,
@@ -74,7 +74,7 @@ pub fn logic_item(cursor: &mut Cursor<'_>) -> Result<GateItem, ParseFault>
     let (gate, location) = word_for::<LogicGate>(cursor)?;
     let drive = drive_if_there(cursor)?;
     let delay = delay_if_there(cursor)?;
-    let gates = separated(cursor)?;
+    let gates = comma_list(cursor)?;
     cursor.skip(b';')?;
     Ok(GateItem {
         location,
@@ -90,7 +90,7 @@ pub fn switch_item(cursor: &mut Cursor<'_>) -> Result<GateItem, ParseFault>
 {
     let (switch, location) = word_for::<Switch>(cursor)?;
     let delay = delay_if_there(cursor)?;
-    let gates = separated(cursor)?;
+    let gates = comma_list(cursor)?;
     cursor.skip(b';')?;
     Ok(GateItem {
         location,
@@ -105,7 +105,7 @@ pub fn tran_item(cursor: &mut Cursor<'_>) -> Result<GateItem, ParseFault>
     ensures { Reads (spec.tran_item cursor.old) result cursor.new }
 {
     let (tran, location) = word_for::<TranGate>(cursor)?;
-    let gates = separated(cursor)?;
+    let gates = comma_list(cursor)?;
     cursor.skip(b';')?;
     Ok(GateItem {
         location,
@@ -121,7 +121,7 @@ pub fn pull_item(cursor: &mut Cursor<'_>) -> Result<GateItem, ParseFault>
 {
     let (pull, location) = word_for::<PullGate>(cursor)?;
     let levels = pull_levels_if_there(cursor)?;
-    let gates = separated(cursor)?;
+    let gates = comma_list(cursor)?;
     cursor.skip(b';')?;
     Ok(GateItem {
         location,
@@ -196,9 +196,9 @@ fn connections(cursor: &mut Cursor<'_>) -> Result<Connections, ParseFault>
     ensures { Reads (spec.connections cursor.old) result cursor.new }
 {
     if cursor.sees_mark(b'.') {
-        Ok(Connections::ByName(separated(cursor)?))
+        Ok(Connections::ByName(comma_list(cursor)?))
     } else {
-        Ok(Connections::ByOrder(separated(cursor)?))
+        Ok(Connections::ByOrder(comma_list(cursor)?))
     }
 }
 
@@ -236,7 +236,7 @@ pub fn instance(cursor: &mut Cursor<'_>) -> Result<Instance, ParseFault>
     let name = cursor.name()?;
     let drive = drive_if_there(cursor)?;
     let delay = delay_if_there(cursor)?;
-    let instances = separated(cursor)?;
+    let instances = comma_list(cursor)?;
     cursor.skip(b';')?;
     Ok(Instance {
         name,

@@ -23,7 +23,7 @@ pub trait Part: Sized + Drop {
 #[tactic(auto, unfolding(crate::specs::Input::front))]
 pub fn passes_comma(cursor: &mut Cursor<'_>) -> bool
     ensures seen { result ≡ input.is_mark 44 (input.front cursor.old) }
-    ensures passed { cursor.new ≡ input.passed_comma cursor.old }
+    ensures passed { cursor.new ≡ input.after_comma cursor.old }
 {
     let sees = cursor.sees_mark(b',');
     if sees {
@@ -33,7 +33,7 @@ pub fn passes_comma(cursor: &mut Cursor<'_>) -> bool
 }
 
 /// The parts as a list of a tree, which takes no more room than they need.
-pub fn listed<P: Drop>(mut found: Vec<P>) -> Items<P>
+pub fn into_items<P: Drop>(mut found: Vec<P>) -> Items<P>
     ensures { result ≡ found.items }
 {
     found.shrink_to_fit();
@@ -47,17 +47,17 @@ pub fn commas<P: Part>(cursor: &mut Cursor<'_>, mut found: Vec<P>) -> Result<Ite
 {
     for _ in 0..cursor.left() {
         if !passes_comma(cursor) {
-            return Ok(listed(found));
+            return Ok(into_items(found));
         }
         found.push(P::read(cursor)?)?;
     }
-    Ok(listed(found))
+    Ok(into_items(found))
 }
 
 /// One part or several, with commas between.
-#[tactic(auto, unfolding(crate::specs::Input::separated))]
-pub fn separated<P: Part>(cursor: &mut Cursor<'_>) -> Result<Items<P>, ParseFault>
-    ensures { Reads (input.separated P.reader cursor.old) result cursor.new }
+#[tactic(auto, unfolding(crate::specs::Input::comma_list))]
+pub fn comma_list<P: Part>(cursor: &mut Cursor<'_>) -> Result<Items<P>, ParseFault>
+    ensures { Reads (input.comma_list P.reader cursor.old) result cursor.new }
 {
     let mut found = Vec::new(cursor.alloc());
     found.push(P::read(cursor)?)?;
@@ -65,7 +65,7 @@ pub fn separated<P: Part>(cursor: &mut Cursor<'_>) -> Result<Items<P>, ParseFaul
 }
 
 /// A part that comes again and again, up to a token that ends the list.
-pub trait Repeated: Part {
+pub trait RepeatedPart: Part {
     ghost use Rattle.std.specs.Prelude.{◌≡◌, Bool};
     ghost use Rattle.v_tree.specs.Written.{Form};
     ghost use Rattle.v_parser.specs.Input.{front};
@@ -80,7 +80,7 @@ pub trait Repeated: Part {
 
 /// Parts up to a token that ends them, put behind those that were found.
 #[tactic(auto, unfolding(crate::specs::Input::many_after, crate::specs::Input::many_from))]
-fn many_after<P: Repeated>(
+fn many_after<P: RepeatedPart>(
     cursor: &mut Cursor<'_>,
     mut found: Vec<P>,
 ) -> Result<Items<P>, ParseFault>
@@ -88,16 +88,16 @@ fn many_after<P: Repeated>(
 {
     for _ in 0..cursor.left() {
         if P::ends(cursor) {
-            return Ok(listed(found));
+            return Ok(into_items(found));
         }
         found.push(P::read(cursor)?)?;
     }
-    Ok(listed(found))
+    Ok(into_items(found))
 }
 
 /// Parts up to a token that ends them.
 #[tactic(auto, unfolding(crate::specs::Input::many))]
-pub fn many<P: Repeated>(cursor: &mut Cursor<'_>) -> Result<Items<P>, ParseFault>
+pub fn many<P: RepeatedPart>(cursor: &mut Cursor<'_>) -> Result<Items<P>, ParseFault>
     ensures { Reads (input.many P.stops P.reader cursor.old) result cursor.new }
 {
     let found = Vec::new(cursor.alloc());
@@ -106,7 +106,7 @@ pub fn many<P: Repeated>(cursor: &mut Cursor<'_>) -> Result<Items<P>, ParseFault
 
 /// One part or several, up to a token that ends them.
 #[tactic(auto, unfolding(crate::specs::Input::some))]
-pub fn some<P: Repeated>(cursor: &mut Cursor<'_>) -> Result<Items<P>, ParseFault>
+pub fn some<P: RepeatedPart>(cursor: &mut Cursor<'_>) -> Result<Items<P>, ParseFault>
     ensures { Reads (input.some P.stops P.reader cursor.old) result cursor.new }
 {
     let mut found = Vec::new(cursor.alloc());

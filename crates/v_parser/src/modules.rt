@@ -13,7 +13,7 @@ use crate::declarations::{
 use crate::directives::cell;
 use crate::fault::ParseFault;
 use crate::gates::{instance, logic_item, pull_item, switch_item, tran_item};
-use crate::lists::{Part, Repeated, commas, many, separated};
+use crate::lists::{Part, RepeatedPart, comma_list, commas, many};
 use crate::words::{sees, word_for};
 use sqlite_items::Items;
 use v_tree::{
@@ -94,9 +94,9 @@ fn gates(cursor: &mut Cursor<'_>) -> Result<Item, ParseFault>
 }
 
 /// Assignments, or what `gates` reads.
-#[tactic(auto, unfolding(crate::specs::Modules::assigned, crate::specs::Input::choice))]
-fn assigned(cursor: &mut Cursor<'_>) -> Result<Item, ParseFault>
-    ensures { Reads (spec.assigned cursor.old) result cursor.new }
+#[tactic(auto, unfolding(crate::specs::Modules::assigns, crate::specs::Input::choice))]
+fn assigns(cursor: &mut Cursor<'_>) -> Result<Item, ParseFault>
+    ensures { Reads (spec.assigns cursor.old) result cursor.new }
 {
     if cursor.sees_word(b"assign") {
         Ok(Item::Assign(assign_item(cursor)?))
@@ -105,19 +105,19 @@ fn assigned(cursor: &mut Cursor<'_>) -> Result<Item, ParseFault>
     }
 }
 
-/// Triregs, or what `assigned` reads.
-#[tactic(auto, unfolding(crate::specs::Modules::charged, crate::specs::Input::choice))]
-fn charged(cursor: &mut Cursor<'_>) -> Result<Item, ParseFault>
-    ensures { Reads (spec.charged cursor.old) result cursor.new }
+/// Triregs, or what `assigns` reads.
+#[tactic(auto, unfolding(crate::specs::Modules::triregs, crate::specs::Input::choice))]
+fn triregs(cursor: &mut Cursor<'_>) -> Result<Item, ParseFault>
+    ensures { Reads (spec.triregs cursor.old) result cursor.new }
 {
     if cursor.sees_word(b"trireg") {
         Ok(Item::Trireg(trireg_decl(cursor)?))
     } else {
-        assigned(cursor)
+        assigns(cursor)
     }
 }
 
-/// Nets, or what `charged` reads.
+/// Nets, or what `triregs` reads.
 #[tactic(auto, unfolding(crate::specs::Modules::nets, crate::specs::Input::choice))]
 fn nets(cursor: &mut Cursor<'_>) -> Result<Item, ParseFault>
     ensures { Reads (spec.nets cursor.old) result cursor.new }
@@ -125,7 +125,7 @@ fn nets(cursor: &mut Cursor<'_>) -> Result<Item, ParseFault>
     if sees::<NetType>(cursor) {
         Ok(Item::Nets(net_decl(cursor)?))
     } else {
-        charged(cursor)
+        triregs(cursor)
     }
 }
 
@@ -151,7 +151,7 @@ impl Part for Item {
     }
 }
 
-impl Repeated for Item {
+impl RepeatedPart for Item {
     ghost use Rattle.v_parser.specs.Modules.{ends_module};
 
     ghost stops = { ends_module };
@@ -217,7 +217,7 @@ fn named_ports(cursor: &mut Cursor<'_>) -> Result<Ports, ParseFault>
     ensures { Reads (spec.named_ports cursor.old) result cursor.new }
 {
     cursor.skip(b'(')?;
-    let names = separated(cursor)?;
+    let names = comma_list(cursor)?;
     cursor.skip(b')')?;
     Ok(Ports::Names(names))
 }

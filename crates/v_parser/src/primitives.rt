@@ -9,7 +9,7 @@ ghost use Rattle.v_parser.specs.Primitives as spec;
 
 use crate::cursor::Cursor;
 use crate::fault::ParseFault;
-use crate::lists::{Part, Repeated, commas, many, separated};
+use crate::lists::{Part, RepeatedPart, comma_list, commas, many};
 use sqlite_items::Items;
 use v_tree::{Lit, PlacedRowList, UdpDecl, UdpInitial, UdpInput, UdpItem, UdpItemList, UdpPorts};
 
@@ -87,7 +87,7 @@ fn named_header(cursor: &mut Cursor<'_>) -> Result<UdpPorts, ParseFault>
     ensures { Reads (spec.named_header cursor.old) result cursor.new }
 {
     cursor.skip(b'(')?;
-    let names = separated(cursor)?;
+    let names = comma_list(cursor)?;
     cursor.skip(b')')?;
     Ok(UdpPorts::Names(names))
 }
@@ -149,7 +149,7 @@ fn input_item(cursor: &mut Cursor<'_>) -> Result<UdpItem, ParseFault>
     ensures { Reads (spec.input_item cursor.old) result cursor.new }
 {
     let location = cursor.word(b"input")?;
-    let names = separated(cursor)?;
+    let names = comma_list(cursor)?;
     cursor.skip(b';')?;
     Ok(UdpItem::Input(location, names))
 }
@@ -199,7 +199,7 @@ impl Part for UdpItem {
     }
 }
 
-impl Repeated for UdpItem {
+impl RepeatedPart for UdpItem {
     ghost use Rattle.v_parser.specs.Primitives.{ends_items};
 
     ghost stops = { ends_items };

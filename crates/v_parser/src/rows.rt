@@ -7,7 +7,7 @@ ghost use Rattle.v_parser.specs.Primitives as spec;
 
 use crate::cursor::Cursor;
 use crate::fault::ParseFault;
-use crate::lists::{Part, Repeated, some};
+use crate::lists::{Part, RepeatedPart, some};
 use sqlite_items::Items;
 use std::alloc::{AllocError, Global};
 use udp_table::{Base, Sym, SymList, UdpRow};
@@ -131,7 +131,7 @@ impl Part for Sym {
     }
 }
 
-impl Repeated for Sym {
+impl RepeatedPart for Sym {
     ghost use Rattle.v_parser.specs.Input.{is_symbol};
 
     ghost stops = { is_symbol 58 };
@@ -215,7 +215,7 @@ impl Part for PlacedRow {
     }
 }
 
-impl Repeated for PlacedRow {
+impl RepeatedPart for PlacedRow {
     ghost use Rattle.v_parser.specs.Primitives.{ends_table};
 
     ghost stops = { ends_table };

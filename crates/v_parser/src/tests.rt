@@ -420,7 +420,7 @@ const COUNT2_TREE: &str =
     "83:Module DFFR (Q,QN,CK,D,RN);97:Output Q,QN 102:Input CK,D,RN 109:udff 110(q,CK,D,RN) 120:Buf 121#(0.12) 125(Q,q) 131:Not 132#(0.12,0.1) 138(QN,q) 144:Specify 13 160:Module XOR2 (Y,A,B);170:Output Y 173:Input A,B 178:Xor 179#(0.07) 183(Y,A,B) 193:Module count2 (q,ck,rn);203:Output [1:0] q 211:Input ck,rn 216:Wire d+1 219:DFFR r[0]221(222.Q=q[0],231.QN=d0,237.CK=ck,243.D=d0,249.RN=rn) 256:XOR2 x258(259.Y=d+1,265.A=q[1],274.B=q[0]) 284:DFFR r1286(287.Q=q[1],296.QN=,301.CK=ck,307.D=d+1,313.RN=rn) 7:udff (q,c,d,r) 19:o q 22:r q 25:i c,d,r |33[??0/?/0] 41[r01/?/0] 49[r11/?/1] 57[n?1/?/-] 65[?*1/?/-] 73[??p/?/-]; 0:Timescale -9/-11; 6:Celldefine; 192:Endcelldefine;";
 
 /// The tree of a text, or its fault.
-fn parsed(alloc: Global, text: &str) -> Result<String, AllocError> {
+fn show_parse(alloc: Global, text: &str) -> Result<String, AllocError> {
     let mut shown = String::new(alloc);
     if text.len() > 67108864 {
         return Ok(shown);
@@ -436,7 +436,7 @@ fn parsed(alloc: Global, text: &str) -> Result<String, AllocError> {
 fn each_file_has_its_tree_or_its_refused_token(rt: HostRuntime) -> Result<(), Fail> {
     for row in FILES.lines() {
         let (text, wanted) = row.split_once(" => ").ok_or("no row")?;
-        let shown = parsed(rt.alloc(), text)?;
+        let shown = show_parse(rt.alloc(), text)?;
         assert_eq!(rt; shown.as_str(), wanted, "of {text}");
     }
     Ok(())
@@ -446,7 +446,7 @@ fn each_file_has_its_tree_or_its_refused_token(rt: HostRuntime) -> Result<(), Fa
 fn each_primitive_has_its_tree_or_its_refused_token(rt: HostRuntime) -> Result<(), Fail> {
     for row in PRIMITIVES.lines() {
         let (text, wanted) = row.split_once(" => ").ok_or("no row")?;
-        let shown = parsed(rt.alloc(), text)?;
+        let shown = show_parse(rt.alloc(), text)?;
         assert_eq!(rt; shown.as_str(), wanted, "of {text}");
     }
     Ok(())
@@ -454,7 +454,7 @@ fn each_primitive_has_its_tree_or_its_refused_token(rt: HostRuntime) -> Result<(
 
 #[test]
 fn the_netlist_of_a_library_user(rt: HostRuntime) -> Result<(), Fail> {
-    assert_eq!(rt; parsed(rt.alloc(), COUNT2)?.as_str(), COUNT2_TREE);
+    assert_eq!(rt; show_parse(rt.alloc(), COUNT2)?.as_str(), COUNT2_TREE);
     Ok(())
 }
 
@@ -466,7 +466,7 @@ fn a_long_block_is_passed_over(rt: HostRuntime) -> Result<(), Fail> {
         text.push_str("a ")?;
     }
     text.push_str("endspecify tran (a, b); endmodule")?;
-    let shown = parsed(rt.alloc(), text.as_str())?;
+    let shown = show_parse(rt.alloc(), text.as_str())?;
     assert_eq!(rt;
         shown.as_str(),
         "0:Module m Absent;3:Specify 1000000 1000005:Tran 1000006(a,b)"
@@ -500,7 +500,7 @@ fn long_lists_are_whole(rt: HostRuntime) -> Result<(), Fail> {
     }
     text.push_str(" endmodule")?;
     assert_eq!(rt;
-        parsed(rt.alloc(), text.as_str())?.as_str(),
+        show_parse(rt.alloc(), text.as_str())?.as_str(),
         wanted.as_str()
     );
     Ok(())
@@ -530,7 +530,7 @@ fn each_item_has_its_tree_or_its_refused_token(rt: HostRuntime) -> Result<(), Fa
     for row in ITEMS.lines() {
         let (item, wanted) = row.split_once(" => ").ok_or("no row")?;
         let text = around(rt.alloc(), item)?;
-        let shown = parsed(rt.alloc(), text.as_str())?;
+        let shown = show_parse(rt.alloc(), text.as_str())?;
         let wanted = wanted_around(rt.alloc(), wanted)?;
         assert_eq!(rt; shown.as_str(), wanted.as_str(), "of {item}");
     }
@@ -541,14 +541,14 @@ fn each_item_has_its_tree_or_its_refused_token(rt: HostRuntime) -> Result<(), Fa
 fn words_that_are_left_out_are_unsupported(rt: HostRuntime) -> Result<(), Fail> {
     for word in LEFT_OUT.split(' ') {
         let text = around(rt.alloc(), word)?;
-        let shown = parsed(rt.alloc(), text.as_str())?;
+        let shown = show_parse(rt.alloc(), text.as_str())?;
         assert_eq!(rt; shown.as_str(), "unsupported 3", "of {word}");
     }
     Ok(())
 }
 
 /// An assignment of a name in so many braces.
-fn nested(alloc: Global, depth: u32, open: &str, close: &str) -> Result<String, AllocError> {
+fn nest(alloc: Global, depth: u32, open: &str, close: &str) -> Result<String, AllocError> {
     let mut text = String::new(alloc);
     text.push_str("module m; assign a = ")?;
     for _ in 0..depth {
@@ -564,11 +564,14 @@ fn nested(alloc: Global, depth: u32, open: &str, close: &str) -> Result<String, 
 
 #[test]
 fn concatenations_stand_64_deep_at_most(rt: HostRuntime) -> Result<(), Fail> {
-    let within = nested(rt.alloc(), 64, "{", "}")?;
-    assert!(rt; parsed(rt.alloc(), within.as_str())?.starts_with("0:Module"));
-    let wide = nested(rt.alloc(), 64, "{c,", "}")?;
-    assert!(rt; parsed(rt.alloc(), wide.as_str())?.starts_with("0:Module"));
-    let beyond = nested(rt.alloc(), 65, "{", "}")?;
-    assert_eq!(rt; parsed(rt.alloc(), beyond.as_str())?.as_str(), "syntax 70");
+    let within = nest(rt.alloc(), 64, "{", "}")?;
+    assert!(rt; show_parse(rt.alloc(), within.as_str())?.starts_with("0:Module"));
+    let wide = nest(rt.alloc(), 64, "{c,", "}")?;
+    assert!(rt; show_parse(rt.alloc(), wide.as_str())?.starts_with("0:Module"));
+    let beyond = nest(rt.alloc(), 65, "{", "}")?;
+    assert_eq!(rt;
+        show_parse(rt.alloc(), beyond.as_str())?.as_str(),
+        "syntax 70"
+    );
     Ok(())
 }

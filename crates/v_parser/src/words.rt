@@ -26,8 +26,8 @@ pub trait Meaning: Sized + Copy {
 }
 
 /// What was seen stands for, where it is one of the words.
-pub fn meant_by<M: Meaning>(seen: Option<&[u8]>) -> Option<M>
-    ensures { result ≡ spec.chosen M.stands_for (option_copied seen.entry) }
+pub fn meaning_of<M: Meaning>(seen: Option<&[u8]>) -> Option<M>
+    ensures { result ≡ spec.word_meaning M.stands_for (option_copied seen.entry) }
 {
     match seen {
         Some(word) => M::of(word),
@@ -36,25 +36,25 @@ pub fn meant_by<M: Meaning>(seen: Option<&[u8]>) -> Option<M>
 }
 
 /// What the next token stands for, where it is one of the words.
-fn meant<M: Meaning>(cursor: &Cursor<'_>) -> Option<M>
-    ensures { result ≡ spec.chosen M.stands_for (input.word_in (input.front cursor.now)) }
+fn next_meaning<M: Meaning>(cursor: &Cursor<'_>) -> Option<M>
+    ensures { result ≡ spec.word_meaning M.stands_for (input.word_in (input.front cursor.now)) }
 {
-    meant_by::<M>(cursor.seen_word())
+    meaning_of::<M>(cursor.seen_word())
 }
 
 /// Whether the next token is one of the words.
 pub fn sees<M: Meaning>(cursor: &Cursor<'_>) -> bool
-    ensures { result ≡ is_some (spec.chosen M.stands_for (input.word_in (input.front cursor.now))) }
+    ensures { result ≡ is_some (spec.word_meaning M.stands_for (input.word_in (input.front cursor.now))) }
 {
-    meant::<M>(cursor).is_some()
+    next_meaning::<M>(cursor).is_some()
 }
 
 /// What the next token stands for, where it is one of the words, with its location.
 pub fn word_for<M: Meaning>(cursor: &mut Cursor<'_>) -> Result<(M, Location), ParseFault>
     ensures { Reads (input.token
-        (λ f. spec.chosen M.stands_for (input.word_in f)) cursor.old) result cursor.new }
+        (λ f. spec.word_meaning M.stands_for (input.word_in f)) cursor.old) result cursor.new }
 {
-    match meant::<M>(cursor) {
+    match next_meaning::<M>(cursor) {
         Some(found) => {
             let location = cursor.location();
             cursor.advance();

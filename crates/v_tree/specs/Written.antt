@@ -1,5 +1,5 @@
 -- The tokens with which a part of a tree is written.
-use Rattle.std.specs.Prelude.{◌≡◌, ◌≢◌, codes, ℕ, ◌+◌, nat_lt, List, [], ◌∷◌, ◌++◌, take, drop, ◌-◌, Option, Some, None, if◌then◌else◌}
+use Rattle.std.specs.Prelude.{◌≡◌, ◌≢◌, codes, ℕ, ◌+◌, nat_lt, List, [], ◌∷◌, ◌++◌, Option, Some, None, if◌then◌else◌}
 use Rattle.v_lexer.specs.declared.token.Token.{Token}
 use Rattle.v_lexer.specs.declared.token.TokenKind.{TokenKind}
 use Rattle.v_lexer.specs.declared.token.TokenKind.TheVariants as kind
@@ -7,6 +7,7 @@ use Rattle.v_lexer.specs.declared.values.Literal.{Literal}
 use Rattle.v_lexer.specs.declared.values.DecimalDigits.{DecimalDigits}
 use Rattle.v_lexer.specs.Bytes.{first}
 use Rattle.v_lexer.specs.Numbers.{decimal_value}
+use Rattle.v_lexer.specs.Sound.{bytes_of}
 use Rattle.v_lexer.specs.Values.{name_text, decimal_digits, literal_of}
 use Rattle.v_tree.specs.declared.locations.Location.{Location}
 
@@ -22,10 +23,6 @@ pub data Form : Type 0 where
   Symbol : ℕ → Form
   End : Form
   Other : Form
-
--- the bytes of a token
-abbrev pub slice_of : List ℕ → Token → List ℕ
-slice_of text token = take (token.end - token.start) (drop token.start text)
 
 abbrev pub number_form : ℕ → Form
 number_form value = if nat_lt value 2147483648 then Number value else Other
@@ -54,7 +51,7 @@ form_by kind.End bytes = End
 
 -- what a token of a text says
 unfoldable pub form_of : List ℕ → Token → Form
-form_of text token = form_by token.kind (slice_of text token)
+form_of text token = form_by token.kind (bytes_of text token)
 
 -- a token as a tree writes it: what it says, and its location where the tree keeps it
 pub record Written : Type 0 where

@@ -1,6 +1,6 @@
 -- The bytes so far are the first of the named file, and no fault was counted.
 use Rattle.std.proofs.Common.{◌≡◌, ◌+◌, ◌-◌, ◌≤◌, Some, vec_len}
-use Rattle.outside_io.specs.Outside.{bytes_of, told_after}
+use Rattle.outside_io.specs.Outside.{content_of, told_after}
 use Rattle.outside_io.proofs.whole.read_whole.Given as goal
 
 abbrev pub invariant-loop-bytes : goal.invariant-loop-bytes
@@ -11,7 +11,7 @@ invariant-loop-bytes g l = record {
   opened : g.F.Shelf.named l.shelf ≡ Some l.name;
   within : vec_len l.bytes ≤ l.limit;
   taken : g.F.Shelf.given l.shelf ≡ vec_len l.bytes;
-  begun : bytes_of (g.F.Shelf.files l.fn.shelf) l.name ≡ told_after l.bytes.items (g.F.Shelf.rest l.shelf);
+  begun : content_of (g.F.Shelf.files l.fn.shelf) l.name ≡ told_after l.bytes.items (g.F.Shelf.rest l.shelf);
 }
 
 abbrev pub decreases-loop-bytes : goal.decreases-loop-bytes

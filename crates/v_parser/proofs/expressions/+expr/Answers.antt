@@ -1,6 +1,6 @@
 use Rattle.std.proofs.Common.{rules, arith, length, ◌≡◌, ◌<◌, true, false, Ok, sym, subst}
 use Rattle.v_tree.specs.declared.expressions.Expr.{Expr}
-use Rattle.v_parser.specs.Input.{Outcome, Reads, commas, is_mark, front, passed_comma}
+use Rattle.v_parser.specs.Input.{Outcome, Reads, commas, is_mark, front, after_comma}
 use Rattle.v_parser.specs.Expressions.{expr_at}
 use Rattle.v_parser.proofs.Turns.{commas_step}
 use Rattle.v_parser.proofs.Nested.{expr_at_atom}
@@ -15,6 +15,6 @@ pub exprs_at-loop-preserved : goal.exprs_at-loop-preserved
 exprs_at-loop-preserved t c =
     let below : c.loop.counter < length c.expr_at.new.cursor.tokens = omega arith in
     let comma : is_mark 44 (front c.loop.cursor) ≡ true = search rules in
-    let read : expr_at c.args.depth (passed_comma c.loop.cursor) ≡ Ok (c.in_ok-expr_at-2.field-0, c.expr_at-in-loop.new.cursor) = search rules in
+    let read : expr_at c.args.depth (after_comma c.loop.cursor) ≡ Ok (c.in_ok-expr_at-2.field-0, c.expr_at-in-loop.new.cursor) = search rules in
     rw c.in_ok-push-2.ensures.items (commas_step (expr_at c.args.depth) (length c.expr_at.new.cursor.tokens) c.loop.counter c.loop.parts.items c.loop.cursor c.expr_at-in-loop.new.cursor c.in_ok-expr_at-2.field-0
     (commas (expr_at c.args.depth) c.push.new.self.items c.expr_at.new.cursor) below comma read c.loop.invariant)

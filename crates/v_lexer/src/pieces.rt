@@ -1,5 +1,5 @@
 ghost use Rattle.std.specs.Prelude.{◌≡◌, ◌≤◌, ◌<◌, ◌+◌, length, IsTrue, IfOk};
-ghost use Rattle.v_lexer.specs.Places.{is_word, mark_at, slash_at, open_at, quote_at, escaped_at, directive_at, name_at, literal_at, exponent_at, quote_offset, whole_at, number_at, plain_at, is_symbol, is_table_end, row_at, place_at, is_table_word, table_after};
+ghost use Rattle.v_lexer.specs.Pieces.{is_word, mark_at, slash_at, open_at, quote_at, escaped_at, directive_at, name_at, literal_at, exponent_at, quote_offset, whole_at, number_at, plain_at, is_symbol, is_table_end, row_at, piece_at, is_table_word, table_after};
 ghost use Rattle.std.specs.Char.{is_ascii_digit};
 ghost use Rattle.v_lexer.specs.Bytes.{first, is_letter};
 
@@ -30,7 +30,7 @@ fn gap(len: usize) -> Result<Piece, FaultKind>
     Ok(Piece { kind: None, len })
 }
 
-#[tactic(auto, unfolding(crate::specs::Places::mark_at))]
+#[tactic(auto, unfolding(crate::specs::Pieces::mark_at))]
 fn mark_at(text: &[u8]) -> Result<Piece, FaultKind>
     requires { 0 < length text.now }
     ensures at { result ≡ mark_at text.now }
@@ -43,8 +43,8 @@ fn mark_at(text: &[u8]) -> Result<Piece, FaultKind>
     }
 }
 
-/// A comment, or what is given.
-#[tactic(auto, unfolding(crate::specs::Places::slash_at))]
+/// A comment, or the other.
+#[tactic(auto, unfolding(crate::specs::Pieces::slash_at))]
 fn slash_at(other: Result<Piece, FaultKind>, text: &[u8]) -> Result<Piece, FaultKind>
     requires some { 0 < length text.now }
     requires other { IfOk other (λ piece. (0 < piece.len) × (piece.len ≤ length text.now)) }
@@ -64,7 +64,7 @@ fn slash_at(other: Result<Piece, FaultKind>, text: &[u8]) -> Result<Piece, Fault
 }
 
 /// An attribute, or the mark `(`.
-#[tactic(auto, unfolding(crate::specs::Places::open_at))]
+#[tactic(auto, unfolding(crate::specs::Pieces::open_at))]
 fn open_at(text: &[u8]) -> Result<Piece, FaultKind>
     requires { 0 < length text.now }
     ensures at { result ≡ open_at text.now }
@@ -80,7 +80,7 @@ fn open_at(text: &[u8]) -> Result<Piece, FaultKind>
     }
 }
 
-#[tactic(auto, unfolding(crate::specs::Places::quote_at))]
+#[tactic(auto, unfolding(crate::specs::Pieces::quote_at))]
 fn quote_at(text: &[u8]) -> Result<Piece, FaultKind>
     requires { 0 < length text.now }
     ensures at { result ≡ quote_at text.now }
@@ -92,7 +92,7 @@ fn quote_at(text: &[u8]) -> Result<Piece, FaultKind>
     }
 }
 
-#[tactic(auto, unfolding(crate::specs::Places::escaped_at))]
+#[tactic(auto, unfolding(crate::specs::Pieces::escaped_at))]
 fn escaped_at(text: &[u8]) -> Result<Piece, FaultKind>
     requires { 0 < length text.now }
     ensures at { result ≡ escaped_at text.now }
@@ -106,7 +106,7 @@ fn escaped_at(text: &[u8]) -> Result<Piece, FaultKind>
     }
 }
 
-#[tactic(auto, unfolding(crate::specs::Places::directive_at))]
+#[tactic(auto, unfolding(crate::specs::Pieces::directive_at))]
 fn directive_at(text: &[u8]) -> Result<Piece, FaultKind>
     requires { 0 < length text.now }
     ensures at { result ≡ directive_at text.now }
@@ -120,7 +120,7 @@ fn directive_at(text: &[u8]) -> Result<Piece, FaultKind>
     }
 }
 
-#[tactic(auto, using(crate::proofs::Fronts::fronts), unfolding(crate::specs::Places::name_at))]
+#[tactic(auto, using(crate::proofs::Fronts::fronts), unfolding(crate::specs::Pieces::name_at))]
 fn name_at(words: &ReservedWords, text: &[u8]) -> Result<Piece, FaultKind>
     requires { IsTrue (is_letter (first text.now)) }
     ensures at { result ≡ name_at text.now }
@@ -134,8 +134,8 @@ fn name_at(words: &ReservedWords, text: &[u8]) -> Result<Piece, FaultKind>
     }
 }
 
-/// A based number whose `'` stands at the offset, and whose size is given.
-#[tactic(auto, unfolding(crate::specs::Places::literal_with))]
+/// A based number whose `'` stands at the offset, and whose size is known.
+#[tactic(auto, unfolding(crate::specs::Pieces::literal_with))]
 fn literal_at(size: Option<u32>, offset: usize, text: &[u8]) -> Result<Piece, FaultKind>
     requires { offset ≤ length text.now }
     ensures at { result ≡ literal_at size offset text.now }
@@ -154,7 +154,7 @@ fn literal_at(size: Option<u32>, offset: usize, text: &[u8]) -> Result<Piece, Fa
 }
 
 /// A number or a decimal of a length, or the exponent that begins with it.
-#[tactic(auto, unfolding(crate::specs::Places::exponent_at))]
+#[tactic(auto, unfolding(crate::specs::Pieces::exponent_at))]
 fn exponent_at(kind: TokenKind, len: usize, text: &[u8]) -> Result<Piece, FaultKind>
     requires some { 0 < len }
     requires within { len ≤ length text.now }
@@ -170,7 +170,7 @@ fn exponent_at(kind: TokenKind, len: usize, text: &[u8]) -> Result<Piece, FaultK
 }
 
 /// What begins with a number of a length.
-#[tactic(auto, unfolding(crate::specs::Places::whole_at))]
+#[tactic(auto, unfolding(crate::specs::Pieces::whole_at))]
 fn whole_at(len: usize, text: &[u8]) -> Result<Piece, FaultKind>
     requires some { 0 < len }
     requires within { len ≤ length text.now }
@@ -191,7 +191,7 @@ fn whole_at(len: usize, text: &[u8]) -> Result<Piece, FaultKind>
 }
 
 /// What begins with a digit.
-#[tactic(auto, using(crate::proofs::Fronts::fronts), unfolding(crate::specs::Places::number_at))]
+#[tactic(auto, using(crate::proofs::Fronts::fronts), unfolding(crate::specs::Pieces::number_at))]
 fn number_at(text: &[u8]) -> Result<Piece, FaultKind>
     requires { IsTrue (is_ascii_digit (first text.now)) }
     ensures at { result ≡ number_at text.now }
@@ -206,7 +206,7 @@ fn number_at(text: &[u8]) -> Result<Piece, FaultKind>
 }
 
 /// What stands at the front of a text outside tables.
-#[tactic(auto, using(crate::proofs::Fronts::fronts), unfolding(crate::specs::Places::plain_at))]
+#[tactic(auto, using(crate::proofs::Fronts::fronts), unfolding(crate::specs::Pieces::plain_at))]
 fn plain_at(words: &ReservedWords, text: &[u8]) -> Result<Piece, FaultKind>
     requires { 0 < length text.now }
     ensures at { result ≡ plain_at text.now }
@@ -237,7 +237,7 @@ fn plain_at(words: &ReservedWords, text: &[u8]) -> Result<Piece, FaultKind>
 }
 
 /// Whether a byte is a symbol of tables.
-#[tactic(auto, unfolding(crate::specs::Places::is_symbol, crate::specs::Places::symbols))]
+#[tactic(auto, unfolding(crate::specs::Pieces::is_symbol, crate::specs::Pieces::symbols))]
 fn is_symbol(byte: u8) -> bool
     ensures { result ≡ is_symbol byte }
 {
@@ -247,7 +247,7 @@ fn is_symbol(byte: u8) -> bool
 }
 
 /// Whether the word `endtable` is at the front.
-#[tactic(auto, unfolding(crate::specs::Places::is_table_end))]
+#[tactic(auto, unfolding(crate::specs::Pieces::is_table_end))]
 fn is_table_end(text: &[u8]) -> bool
     ensures is { result ≡ is_table_end text.now }
     ensures long { IsTrue result → 8 ≤ length text.now }
@@ -256,7 +256,7 @@ fn is_table_end(text: &[u8]) -> bool
 }
 
 /// What stands at the front of a text inside a table.
-#[tactic(auto, using(crate::proofs::Fronts::fronts), unfolding(crate::specs::Places::row_at))]
+#[tactic(auto, using(crate::proofs::Fronts::fronts), unfolding(crate::specs::Pieces::row_at))]
 fn row_at(text: &[u8]) -> Result<Piece, FaultKind>
     requires { 0 < length text.now }
     ensures at { result ≡ row_at text.now }
@@ -277,10 +277,10 @@ fn row_at(text: &[u8]) -> Result<Piece, FaultKind>
 }
 
 /// What stands at the front of a text, inside a table or outside.
-#[tactic(auto, unfolding(crate::specs::Places::place_at))]
-pub fn place_at(words: &ReservedWords, table: bool, text: &[u8]) -> Result<Piece, FaultKind>
+#[tactic(auto, unfolding(crate::specs::Pieces::piece_at))]
+pub fn piece_at(words: &ReservedWords, table: bool, text: &[u8]) -> Result<Piece, FaultKind>
     requires { 0 < length text.now }
-    ensures at { result ≡ place_at table text.now }
+    ensures at { result ≡ piece_at table text.now }
     ensures within { IfOk result (λ piece. (0 < piece.len) × (piece.len ≤ length text.now)) }
 {
     if table {
@@ -297,7 +297,7 @@ fn is_word(kind: Option<TokenKind>) -> bool
     matches!(kind, Some(TokenKind::Word))
 }
 
-#[tactic(auto, unfolding(crate::specs::Places::is_table_word))]
+#[tactic(auto, unfolding(crate::specs::Pieces::is_table_word))]
 fn is_table_word(word: &[u8]) -> bool
     ensures { result ≡ is_table_word word.now }
 {
@@ -305,7 +305,7 @@ fn is_table_word(word: &[u8]) -> bool
 }
 
 /// Whether what comes after a token or a gap is inside a table.
-#[tactic(auto, unfolding(crate::specs::Places::table_after))]
+#[tactic(auto, unfolding(crate::specs::Pieces::table_after))]
 pub fn table_after(table: bool, piece: Piece, text: &[u8]) -> bool
     ensures { result ≡ table_after table piece text.now }
 {

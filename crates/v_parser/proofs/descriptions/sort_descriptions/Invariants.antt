@@ -2,7 +2,7 @@ use Rattle.std.proofs.Common.{◌-◌, length}
 use Rattle.v_parser.specs.Input.{many, is_finish}
 use Rattle.v_parser.specs.Descriptions.{description}
 use Rattle.v_parser.proofs.Sorting.{IsSorted}
-use Rattle.v_parser.proofs.descriptions.sorted.Given as goal
+use Rattle.v_parser.proofs.descriptions.sort_descriptions.Given as goal
 
 -- what was read so far is sorted, and the rest gives what is read from the beginning
 abbrev pub invariant-loop : goal.invariant-loop

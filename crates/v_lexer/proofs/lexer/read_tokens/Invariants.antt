@@ -1,6 +1,6 @@
 use Rattle.std.proofs.Common.{◌≡◌, ◌+◌, ◌≤◌, length}
 use Rattle.v_lexer.specs.Tokens.{onto, tokens_from, tokens_of}
-use Rattle.v_lexer.proofs.lexer.lexed.Given as goal
+use Rattle.v_lexer.proofs.lexer.read_tokens.Given as goal
 
 abbrev pub invariant-loop-rest : goal.invariant-loop-rest
 invariant-loop-rest l = record {

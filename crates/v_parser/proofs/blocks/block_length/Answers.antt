@@ -1,8 +1,8 @@
 use Rattle.std.proofs.Common.{rules, arith, length, ◌≡◌, ◌<◌, ◌-◌, false, true}
 use Rattle.v_parser.specs.Input.{front}
-use Rattle.v_parser.specs.Blocks.{ends_block, passed}
-use Rattle.v_parser.proofs.Passing.{passed_step}
-use Rattle.v_parser.proofs.blocks.passed.Goals as goal
+use Rattle.v_parser.specs.Blocks.{ends_block, block_length}
+use Rattle.v_parser.proofs.Passing.{block_length_step}
+use Rattle.v_parser.proofs.blocks.block_length.Goals as goal
 
 pub overflow_add-count : goal.overflow_add-count
 overflow_add-count c = omega (arith, c.left-end.ensures.few, c.loop.invariant.counted, c.loop-test.true)
@@ -13,5 +13,5 @@ loop-preserved c =
     let goes : ends_block (front c.loop.cursor) ≡ false = search rules in
     record {
       counted = omega (arith, c.loop.invariant.counted);
-      all = passed_step (length c.args.cursor.now.tokens) c.loop.counter c.loop.count c.loop.cursor c.advance.new.self (passed c.args.cursor.now) below goes c.advance.ensures c.loop.invariant.all;
+      all = block_length_step (length c.args.cursor.now.tokens) c.loop.counter c.loop.count c.loop.cursor c.advance.new.self (block_length c.args.cursor.now) below goes c.advance.ensures c.loop.invariant.all;
     }

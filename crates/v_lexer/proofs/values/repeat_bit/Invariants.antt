@@ -1,5 +1,5 @@
 use Rattle.std.proofs.Common.{◌≡◌, replicate}
-use Rattle.v_lexer.proofs.values.repeated.Given as goal
+use Rattle.v_lexer.proofs.values.repeat_bit.Given as goal
 
 abbrev pub invariant-loop : goal.invariant-loop
 invariant-loop l = l.bits.items ≡ replicate l.counter l.bit

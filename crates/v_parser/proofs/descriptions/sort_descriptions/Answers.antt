@@ -4,7 +4,7 @@ use Rattle.v_parser.specs.Descriptions.{description}
 use Rattle.v_tree.specs.declared.modules.Description.{Description}
 use Rattle.v_parser.specs.declared.fault.ParseFault.TheVariants.{Memory}
 use Rattle.v_parser.proofs.Sorting.{sort_init, sort_step, sort_ended, sort_done, sort_refused, handed_on}
-use Rattle.v_parser.proofs.descriptions.sorted.Goals as goal
+use Rattle.v_parser.proofs.descriptions.sort_descriptions.Goals as goal
 
 pub loop-init : goal.loop-init
 loop-init c = sort_init _ _ _ _ c.args.cursor.now (omega arith) c.new-modules.ensures.items c.new-udps.ensures.items c.new-directives.ensures.items
@@ -20,10 +20,10 @@ loop-preserved c =
 pub returns-then-sees_finish : goal.returns-then-sees_finish
 returns-then-sees_finish c =
     let ended : is_finish (front c.loop.cursor) ≡ true = search rules in
-    rw (c.listed.ensures, c.listed-then-sees_finish.ensures, c.listed-then-sees_finish-2.ensures) (sort_ended (length c.args.cursor.now.tokens - c.loop.counter) c.loop.modules.items c.loop.udps.items c.loop.directives.items c.loop.cursor (many is_finish description c.args.cursor.now) ended c.loop.invariant)
+    rw (c.into_items.ensures, c.into_items-then-sees_finish.ensures, c.into_items-then-sees_finish-2.ensures) (sort_ended (length c.args.cursor.now.tokens - c.loop.counter) c.loop.modules.items c.loop.udps.items c.loop.directives.items c.loop.cursor (many is_finish description c.args.cursor.now) ended c.loop.invariant)
 
 pub returns : goal.returns
-returns c = rw (c.listed-2.ensures, c.listed-3.ensures, c.listed-4.ensures) (sort_done (length c.args.cursor.now.tokens - c.loop.counter) c.loop.modules.items c.loop.udps.items c.loop.directives.items c.loop.cursor (many is_finish description c.args.cursor.now) (omega arith) c.loop.invariant)
+returns c = rw (c.into_items-2.ensures, c.into_items-3.ensures, c.into_items-4.ensures) (sort_done (length c.args.cursor.now.tokens - c.loop.counter) c.loop.modules.items c.loop.udps.items c.loop.directives.items c.loop.cursor (many is_finish description c.args.cursor.now) (omega arith) c.loop.invariant)
 
 pub returns-in_err-found : goal.returns-in_err-found
 returns-in_err-found c =

@@ -1,7 +1,0 @@
-use Rattle.std.proofs.Common.{◌≡◌, ◌-◌, length}
-use Rattle.v_parser.specs.Blocks.{passed, passed_from}
-use Rattle.v_parser.proofs.blocks.passed.Given as goal
-
--- what is passed over from here on, added to what was, is what is passed over from the beginning
-abbrev pub invariant-loop : goal.invariant-loop
-invariant-loop l = record { counted : l.count ≡ l.counter; all : passed_from (length l.initial.cursor.tokens - l.counter) l.count l.cursor ≡ passed l.initial.cursor }
