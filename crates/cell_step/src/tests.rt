@@ -9,6 +9,9 @@ ghost use Rattle.cell_step.specs.Fitting.{FitsElement};
 
 mod copies;
 mod gate_rows;
+mod island_parts;
+mod island_rows;
+mod islands;
 mod models;
 mod netlists;
 mod run_rows;

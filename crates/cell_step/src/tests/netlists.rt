@@ -41,7 +41,7 @@ fn first_nets(model: &Model) -> (u16, u16)
 }
 
 /// The numbers of so many nets from the first on.
-fn numbers(alloc: Global, first: u16, count: u8) -> Result<NetList, AllocError> {
+pub fn numbers(alloc: Global, first: u16, count: u8) -> Result<NetList, AllocError> {
     let mut nets = Vec::new(alloc);
     for k in 0..count {
         nets.push(u32::from(first) + u32::from(k))?;
@@ -142,7 +142,7 @@ fn udps(rt: &impl Abort, alloc: Global) -> Result<ListOf<Udp>, Fail> {
 }
 
 /// Names of one letter.
-fn names(alloc: Global, count: usize) -> Result<NameList, AllocError> {
+pub fn names(alloc: Global, count: usize) -> Result<NameList, AllocError> {
     let mut names = Vec::new(alloc);
     for letter in (b'a'..=b'z').take(count) {
         names.push(Bytes::from_vec(vec![in alloc; letter]?))?;
