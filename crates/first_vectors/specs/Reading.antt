@@ -9,7 +9,7 @@ use Rattle.gate_net.specs.declared.stimulus.Stimulus.{Stimulus}
 use Rattle.name_table.specs.Names.{is_distinct}
 use Rattle.first_vectors.specs.declared.row.Row.{Row}
 use Rattle.first_vectors.specs.declared.row.Row.TheVariants.{Values, End}
-use Rattle.gate_net.specs.Steps.{◌>>=◌}
+use Rattle.gate_net.specs.Steps.{◌>>=◌, each}
 use Rattle.first_vectors.specs.Fields.{name_in, table_of, two_of, time_of}
 
 -- the value of a byte 0 or 1
@@ -18,11 +18,7 @@ value_of b = if b == 48 then Some Zero else if b == 49 then Some One else None
 
 -- the values of a field, one for each byte
 unfoldable pub values_of : List ℕ → Option (List Logic)
-values_of [] = Some []
-values_of (b ∷ bs) = do
-  value ← value_of b
-  values ← values_of bs
-  Some (value ∷ values)
+values_of field = each value_of field
 
 -- the name of a net
 abbrev pub name_of : Netlist → ℕ → List ℕ
@@ -38,11 +34,7 @@ input_named netlist name = find (λ net. bytes_eq name (name_of netlist net)) ne
 
 -- the inputs of these names
 unfoldable pub inputs_named : Netlist → List (List ℕ) → Option (List ℕ)
-inputs_named netlist [] = Some []
-inputs_named netlist (name ∷ names) = do
-  net ← input_named netlist name
-  nets ← inputs_named netlist names
-  Some (net ∷ nets)
+inputs_named netlist names = each (input_named netlist) names
 
 -- the inputs of one or more names, of which none stands twice
 unfoldable pub input_list : Netlist → List (List ℕ) → Option (List ℕ)

@@ -3,10 +3,8 @@ use Rattle.std.proofs.Common.{◌≡◌, ◌≢◌, ℕ, suc, ◌+◌, ◌<◌, 
 use Rattle.std.specs.List.{AllByRecursion}
 use Rattle.std.proofs.lemmas.Bool.{cases_Bool, ltb-true, ltb-false}
 use Rattle.v_lexer.specs.declared.token.Token.{Token}
-use Rattle.v_tree.specs.declared.modules.Module.{Module}
 use Rattle.v_tree.specs.declared.modules.Description.{Description}
 use Rattle.v_tree.specs.declared.modules.Description.TheVariants as described
-use Rattle.v_tree.specs.declared.directives.Directive.{Directive}
 use Rattle.v_tree.specs.declared.directives.Directive.TheVariants as directives
 use Rattle.v_tree.specs.Written.{Spelled, AreWritten, one_by_one}
 use Rattle.v_tree.specs.Spelling.{description}

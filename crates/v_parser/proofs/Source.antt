@@ -9,9 +9,9 @@ use Rattle.v_lexer.specs.declared.token.Piece.{Piece}
 use Rattle.v_lexer.specs.Sound.{IsVisible, AreDigits, HasDigits, HasBits, IsSound, AreSound, bytes_of}
 use Rattle.std.proofs.lemmas.Bool.{cases_Bool}
 use Rattle.std.proofs.lemmas.List.Elements.{recursion_from_All}
-use Rattle.v_lexer.specs.Places.{table_after}
+use Rattle.v_lexer.specs.Pieces.{table_after}
 use Rattle.v_lexer.specs.Reading.{AreTokensOf, Reads, line_of}
-use Rattle.v_lexer.specs.Tokens.{given}
+use Rattle.v_lexer.specs.Tokens.{tokens_of_piece}
 use Rattle.v_lexer.specs.Values.{name_text, decimal_digits, literal_of}
 use Rattle.v_lexer.specs.Numbers.{decimal_value}
 use Rattle.v_lexer.proofs.Sound.{are_sound}
@@ -21,17 +21,17 @@ use Rattle.v_parser.proofs.Rules.{IsSource}
 use Rattle.v_parser.proofs.DescriptionRules.{AreEnded}
 use Rattle.v_parser.specs.Reading.{whole}
 
-given_one : (at line : ℕ) (kind : Option TokenKind) (len : ℕ) → length (given at line kind len) ≤ 1
-given_one at line None len = omega arith
-given_one at line (Some kind) len = omega arith
+one_token : (at line : ℕ) (kind : Option TokenKind) (len : ℕ) → length (tokens_of_piece at line kind len) ≤ 1
+one_token at line None len = omega arith
+one_token at line (Some kind) len = omega arith
 
 tokens_few_from : (text : List ℕ) (table : Bool) (at : ℕ) (pieces : List Piece) (tokens : List Token) → Reads text table at pieces tokens → length tokens + at ≤ length text + 1
 tokens_few_from text table at [] tokens h = rw h.1 (omega (arith, h.0))
 tokens_few_from text table at (piece ∷ pieces) tokens h =
     let few : length h.0 + (at + piece.len) ≤ length text + 1 = tokens_few_from text (table_after table piece (drop at text)) (at + piece.len) pieces h.0 h.3 in
-    let one : length (given at (line_of text at) piece.kind piece.len) ≤ 1 = given_one at (line_of text at) piece.kind piece.len in
+    let one : length (tokens_of_piece at (line_of text at) piece.kind piece.len) ≤ 1 = one_token at (line_of text at) piece.kind piece.len in
     let some : 0 < piece.len = h.1.some in
-    rw h.2 (omega (arith, length-append (given at (line_of text at) piece.kind piece.len) h.0, few, one, some))
+    rw h.2 (omega (arith, length-append (tokens_of_piece at (line_of text at) piece.kind piece.len) h.0, few, one, some))
 
 -- there is one token more than bytes at most
 pub tokens_few : (text : List ℕ) (tokens : List Token) → AreTokensOf text tokens → length tokens ≤ length text + 1

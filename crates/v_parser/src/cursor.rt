@@ -42,7 +42,7 @@ impl<'a> Model for Cursor<'a> {
 }
 
 /// The bytes from one offset to another, as far as they lie in the text.
-fn piece(text: &[u8], start: usize, end: usize) -> &[u8]
+fn slice(text: &[u8], start: usize, end: usize) -> &[u8]
     ensures { result.now ≡ take (end - start) (drop start text.now) }
 {
     let (_, rest) = text.split_at(start.min(text.len()));
@@ -128,7 +128,7 @@ impl<'a> Cursor<'a> {
         ensures { result.now ≡ spec.bytes self.now }
     {
         match self.tokens {
-            [token, ..] => piece(self.text, token.start as usize, token.end as usize),
+            [token, ..] => slice(self.text, token.start as usize, token.end as usize),
             [] => &[],
         }
     }

@@ -1,4 +1,4 @@
-use Rattle.std.proofs.Common.{rules, arith, length, ◌≡◌, ◌<◌, ◌-◌, false, true}
+use Rattle.std.proofs.Common.{rules, arith, length, ◌≡◌, ◌<◌, false}
 use Rattle.v_parser.specs.Input.{front}
 use Rattle.v_parser.specs.Blocks.{ends_block, block_length}
 use Rattle.v_parser.proofs.Passing.{block_length_step}
