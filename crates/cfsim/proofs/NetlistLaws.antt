@@ -1,5 +1,5 @@
 -- What a text gives as a netlist, said without the functions that read it.
-use Rattle.std.proofs.Common.{◌≡◌, ℕ, ◌≤◌, Bool, true, false, ltb, cond, List, length, Option, Some, None, Result, Ok, Err, refl, sym, ap, ◌∙◌, arith, inl, inr}
+use Rattle.std.proofs.Common.{◌≡◌, ℕ, ◌≤◌, ltb, List, length, Option, Some, Result, Ok, Err, refl, ap, ◌∙◌, arith, inl, inr}
 use Rattle.std.specs.Prelude.{slice_get}
 use Rattle.std.specs.Option.{option_map_or}
 use Rattle.std.proofs.lemmas.Bool.{cases_Bool, ltb-true}
@@ -13,12 +13,11 @@ use Rattle.v_lexer.proofs.Agreement.{reads_only, stops_only}
 use Rattle.v_tree.specs.declared.modules.Description.{Description}
 use Rattle.v_parser.specs.declared.fault.ParseFault.{ParseFault}
 use Rattle.v_parser.specs.declared.fault.ParseFault.TheVariants.{Unsupported, Syntax, Memory}
-use Rattle.v_parser.specs.Input.{Input, Outcome, is_left_out}
+use Rattle.v_parser.specs.Input.{Outcome}
 use Rattle.v_parser.specs.Reading.{descriptions_of, IsRefusalOf}
 use Rattle.v_parser.proofs.Laws.{read_found, read_only, refused_found}
-use Rattle.cfsim.specs.declared.line_fault.LineFault.TheVariants as wrong
 use Rattle.cfsim.specs.Answer.{netlist_limit, netlist_of_file}
-use Rattle.cfsim.specs.Netlists.{refusal_of_lexer, refusal_of_parser, line_of, netlist_of_descriptions, netlist_of_parser, netlist_of_lexer, netlist_of_text, fault_of, fault_at, AreSpelled, IsRefusedAtToken}
+use Rattle.cfsim.specs.Netlists.{refusal_of_parser, line_of, netlist_of_descriptions, netlist_of_parser, netlist_of_lexer, netlist_of_text, fault_of, AreSpelled, IsRefusedAtToken}
 use Rattle.cfsim.specs.declared.refusal.Refusal.{Refusal}
 use Rattle.cfsim.specs.declared.refusal.Refusal.TheVariants.{Faulty}
 

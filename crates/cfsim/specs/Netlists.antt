@@ -1,5 +1,5 @@
 -- What the text of a netlist gives: its tokens, their tree, and the netlist of that.
-use Rattle.std.specs.Prelude.{◌≡◌, ℕ, List, slice_get, Option, Some, None, Result, Ok, Err, if◌then◌else◌}
+use Rattle.std.specs.Prelude.{◌≡◌, ℕ, List, slice_get, Some, Result, Ok, Err, if◌then◌else◌}
 use Rattle.std.specs.Option.{ok_or, option_map_or}
 use Rattle.gate_net.specs.declared.netlist.Netlist.{Netlist}
 use Rattle.first_netlist.specs.Form.{netlist_of}
@@ -21,7 +21,7 @@ use Rattle.v_lexer.specs.Sound.{bytes_of}
 use Rattle.v_tree.specs.Written.{AreWritten}
 use Rattle.v_parser.specs.declared.fault.ParseFault.{ParseFault}
 use Rattle.v_parser.specs.declared.fault.ParseFault.TheVariants as parser
-use Rattle.v_parser.specs.Input.{Outcome, is_left_out}
+use Rattle.v_parser.specs.Input.{is_left_out}
 use Rattle.v_parser.specs.Reading.{descriptions_of}
 use Rattle.cfsim.specs.declared.line_fault.LineFault.{LineFault}
 use Rattle.cfsim.specs.declared.line_fault.LineFault.TheVariants.{Lexical, SyntaxError, Unsupported}
