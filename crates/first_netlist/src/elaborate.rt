@@ -33,7 +33,8 @@ fn net_at(nets: &NameTable, name: &Bytes) -> Result<u32, BuildFault>
 /// The indices of the names in the table.
 fn nets_at(alloc: Global, nets: &NameTable, names: &[Bytes]) -> Result<Vec<u32>, BuildFault>
     requires { length nets.now ≤ limit }
-    ensures { Gives (λ indices. indices.items) result (each (λ name. index_of name nets.now) names.now) }
+    ensures { Gives (λ indices. indices.items) result
+        (each (λ name. index_of name nets.now) names.now) }
 {
     let mut indices = Vec::new(alloc);
     for name in names {
@@ -164,7 +165,8 @@ fn ports_agree(module: &Module, header: &NameTable, inputs: &NameTable, outputs:
     requires header { header.now ≡ «module».now.header.items }
     requires inputs { inputs.now ≡ «module».now.inputs.items }
     requires outputs { outputs.now ≡ «module».now.outputs.items }
-    ensures { result ≡ ports_agree «module».now.header.items «module».now.inputs.items «module».now.outputs.items }
+    ensures { result
+        ≡ ports_agree «module».now.header.items «module».now.inputs.items «module».now.outputs.items }
 {
     all_among(header, &module.inputs)
         && all_among(header, &module.outputs)
@@ -193,7 +195,8 @@ fn port_nets(
 #[tactic(auto, unfolding(crate::specs::Meaning::ports_of))]
 fn ports_of(alloc: Global, module: &Module) -> Result<(Vec<u32>, Vec<u32>), BuildFault>
     requires { length «module».now.header.items ≤ limit }
-    ensures { Gives (λ ports. (ports.0.items, ports.1.items)) result (ports_of (module_view «module».now)) }
+    ensures { Gives (λ ports. (ports.0.items, ports.1.items)) result
+        (ports_of (module_view «module».now)) }
 {
     let header = table_of(alloc, &module.header)?;
     let inputs = table_of(alloc, &module.inputs)?;

@@ -235,7 +235,8 @@ fn items_of(
     mut module: Module,
     items: &[v_tree::Item],
 ) -> Result<Module, BuildFault>
-    ensures { Gives module_view result (with_read_items (module_view «module») (each item_of items.now)) }
+    ensures { Gives module_view result
+        (with_read_items (module_view «module») (each item_of items.now)) }
 {
     for item in items {
         add_item(&mut module, item_of(alloc, words, item)?)?;
@@ -296,7 +297,8 @@ pub fn declarations_in(
 /// `Unbuilt` comes exactly where the file is outside the form, unless memory runs out first.
 #[tactic(auto, unfolding(crate::specs::Form::netlist_of))]
 pub fn netlist_of(alloc: Global, file: File) -> Result<Netlist, BuildFault>
-    ensures exact { Gives (λ netlist. netlist) result (netlist_of file.modules file.udps file.directives) }
+    ensures exact { Gives (λ netlist. netlist) result
+        (netlist_of file.modules file.udps file.directives) }
     ensures sound { IfOk result IsSound }
     ensures distinct { IfOk result (λ netlist. IsTrue (is_distinct netlist.names)) }
 {

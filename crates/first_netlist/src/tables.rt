@@ -57,7 +57,8 @@ pub fn none_among(table: &NameTable, names: &[Bytes]) -> bool
 
 /// Whether each name stands in one of two tables.
 pub fn all_in_either(first: &NameTable, second: &NameTable, names: &[Bytes]) -> bool
-    ensures { result ≡ list_all (λ name. is_among name first.now || is_among name second.now) names.now }
+    ensures { result
+        ≡ list_all (λ name. is_among name first.now || is_among name second.now) names.now }
 {
     names.iter().all(|name| {
         let name = name.as_slice();

@@ -44,7 +44,8 @@ fn next_meaning<M: Meaning>(cursor: &Cursor<'_>) -> Option<M>
 
 /// Whether the next token is one of the words.
 pub fn sees<M: Meaning>(cursor: &Cursor<'_>) -> bool
-    ensures { result ≡ is_some (spec.word_meaning M.stands_for (input.word_in (input.front cursor.now))) }
+    ensures { result
+        ≡ is_some (spec.word_meaning M.stands_for (input.word_in (input.front cursor.now))) }
 {
     next_meaning::<M>(cursor).is_some()
 }
