@@ -6,4 +6,3 @@ pub mod Reach
 pub mod Top
 pub mod Rules
 pub mod Masters
-pub mod Searches
