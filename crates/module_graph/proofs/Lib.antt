@@ -1,3 +1,5 @@
 pub mod NumberLaws
 pub mod TokenLaws
 pub mod MasterLaws
+pub mod ReachLaws
+pub mod SearchLaws

@@ -6,3 +6,4 @@ pub mod Reach
 pub mod Top
 pub mod Rules
 pub mod Masters
+pub mod Searches

@@ -3,6 +3,7 @@
 
 mod masters;
 mod numbers;
+mod reach;
 mod references;
 mod repeated;
 
