@@ -3,3 +3,5 @@ pub mod TokenLaws
 pub mod MasterLaws
 pub mod ReachLaws
 pub mod SearchLaws
+pub mod TopLaws
+pub mod OrderLaws
