@@ -101,7 +101,7 @@ impl ModuleGraph {
     /// The index of the top: the first module of the chosen name, or without a choice the last module in
     /// the text that no module of the file instantiates. None comes where there is no such module.
     pub fn top(&self, choice: Option<&[u8]>) -> Option<usize>
-        ensures { result ≡ top_of self.now (option_copied choice) }
+        ensures { result ≡ top_of self.now (option_copied choice.entry) }
     {
         match choice {
             Some(name) => first_of(self.names.as_slice(), name),
