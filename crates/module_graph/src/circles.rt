@@ -4,9 +4,8 @@ ghost use Rattle.module_graph.specs.Rules.{leads_back, places_in, reached_places
 ghost use Rattle.rule_places.specs.Places.{earliest, first_place, places_where};
 
 use crate::order::{is_in_order, positions_of};
-use crate::reach::reached_from;
+use crate::reach::{is_reached, reached_from};
 use crate::references::{Master, Reference, ReferenceList};
-use crate::unknown::is_reached;
 use rule_places::{earliest, precedes};
 use std::alloc::{AllocError, Global};
 use v_tree::Location;

@@ -2,8 +2,8 @@
 ghost use Rattle.std.specs.Prelude.{◌≡◌, slice_index};
 ghost use Rattle.module_graph.specs.Order.{are_later, is_in_order, is_later};
 
+use crate::reach::is_reached;
 use crate::references::{Master, Reference, ReferenceList};
-use crate::unknown::is_reached;
 use std::alloc::{AllocError, Global};
 
 /// The number at an index, and 0 past the end.
