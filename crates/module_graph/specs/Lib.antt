@@ -1,0 +1,11 @@
+pub mod Numbers
+pub mod Names
+pub mod Tokens
+pub mod Graph
+pub mod Masters
+pub mod Reach
+pub mod Searches
+pub mod Top
+pub mod Marks
+pub mod Order
+pub mod Rules
