@@ -17,5 +17,3 @@ pub use nets::ScopeNet;
 pub use roles::{NetKind, NetRole, PortRole, Role, Side};
 pub use scopes::{Scope, ScopePlaces};
 
-#[cfg(test)]
-mod tests;

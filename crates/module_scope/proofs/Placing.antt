@@ -1,0 +1,1 @@
+-- The places of mentions by the indices of their names.
