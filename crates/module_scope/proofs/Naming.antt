@@ -94,8 +94,8 @@ new_names-push before (first ∷ mentions) m =
         → new_names before (mentions ++ m ∷ []) ≡ new_names before mentions ++ unless_among m.name (before ++ new_names before mentions)
         → new_names (before ++ first.name ∷ []) (mentions ++ m ∷ []) ≡ new_names (before ++ first.name ∷ []) mentions ++ unless_among m.name ((before ++ first.name ∷ []) ++ new_names (before ++ first.name ∷ []) mentions)
         → cond among (new_names before (mentions ++ m ∷ [])) (first.name ∷ new_names (before ++ first.name ∷ []) (mentions ++ m ∷ []))
-          ≡ cond among (new_names before mentions) (first.name ∷ new_names (before ++ first.name ∷ []) mentions)
-            ++ unless_among m.name (before ++ cond among (new_names before mentions) (first.name ∷ new_names (before ++ first.name ∷ []) mentions))
+        ≡ cond among (new_names before mentions) (first.name ∷ new_names (before ++ first.name ∷ []) mentions)
+        ++ unless_among m.name (before ++ cond among (new_names before mentions) (first.name ∷ new_names (before ++ first.name ∷ []) mentions))
     by true again fresh = again
     by false again fresh =
         let rest = new_names (before ++ first.name ∷ []) mentions in
@@ -160,8 +160,8 @@ module _ (names : List (List ℕ)) (occurrences : List Occurrence) (r : Role) (n
     within =
         let more : length (names ++ name.text ∷ []) ≡ length names + 1 = length-append names (name.text ∷ []) in
         All-push (λ (o : Occurrence). o.name < length (names ++ name.text ∷ [])) occurrences (occurrence (length names) name r)
-          (All-weaker (λ (o : Occurrence). o.name < length names) (λ (o : Occurrence). o.name < length (names ++ name.text ∷ [])) (λ o lt. omega arith) occurrences are.within)
-          (omega arith);
+        (All-weaker (λ (o : Occurrence). o.name < length names) (λ (o : Occurrence). o.name < length (names ++ name.text ∷ [])) (λ o lt. omega arith) occurrences are.within)
+        (omega arith);
     order =
         let among : is_among name.text (first_names (mentions_at names occurrences)) ≡ false = subst (λ (ns : List (List ℕ)). is_among name.text ns ≡ false) are.order absent in
         ap (λ (ns : List (List ℕ)). ns ++ name.text ∷ []) are.order

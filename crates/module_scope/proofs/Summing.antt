@@ -1,9 +1,9 @@
 -- Summaries of the roles of names.
-use Rattle.std.proofs.Common.{◌≡◌, ℕ, suc, ◌+◌, ◌<◌, ◌≤◌, Bool, true, false, cond, ◌||◌, List, [], ◌∷◌, ◌++◌, length, map, get_or, set, eqb, refl, sym, ap, subst, ◌∙◌, arith, inl, inr, length-set, get_or-set_same, get_or-set_other}
+use Rattle.std.proofs.Common.{◌≡◌, ℕ, suc, ◌+◌, ◌<◌, ◌≤◌, Bool, true, false, cond, ◌||◌, List, [], ◌∷◌, ◌++◌, length, map, get_or, set, take, eqb, refl, sym, ap, subst, ◌∙◌, arith, inl, inr, length-set, get_or-set_same, get_or-set_other}
 use Rattle.std.specs.List.{find, filter, list_any, range_with_len}
 use Rattle.std.specs.Option.{option_or}
 use Rattle.std.proofs.lemmas.Bool.{cases_eq, eq-eqb, ne_eqb}
-use Rattle.std.proofs.lemmas.List.{map-append, append-nil, ext_get_or}
+use Rattle.std.proofs.lemmas.List.{map-append, append-nil, ext_get_or, take_more}
 use Rattle.std.proofs.lemmas.Grind.{get_or-set_at}
 use Rattle.std.proofs.lemmas.List.Elements.{filter-append}
 use Rattle.std.proofs.lemmas.List.Folds.{find-append, list_any-append}
@@ -44,8 +44,16 @@ list_any-push is_kind (first ∷ roles) r = by (is_kind first) (list_any-push is
 
 pub summary_of-push : (roles : List Role) (r : Role) → summary_of (roles ++ r ∷ []) ≡ with_role (summary_of roles) r
 summary_of-push roles r =
-    rw (how_many-push is_header roles r, how_many-push is_port roles r, how_many-push is_declaration roles r,
-      find-push is_declaration roles r, find-push declares_net roles r, find-push is_port roles r, find-push is_net roles r, list_any-push makes_net roles r) refl
+    rw (
+      how_many-push is_header roles r,
+      how_many-push is_port roles r,
+      how_many-push is_declaration roles r,
+      find-push is_declaration roles r,
+      find-push declares_net roles r,
+      find-push is_port roles r,
+      find-push is_net roles r,
+      list_any-push makes_net roles r,
+    ) refl
 
 -- ---- one more occurrence
 
@@ -78,13 +86,15 @@ pub summaries_of-push : (count : ℕ) (occurrences : List Occurrence) (o : Occur
     set (summaries_of count occurrences) o.name (with_role (get_or (summaries_of count occurrences) o.name d) o.role) ≡ summaries_of count (occurrences ++ o ∷ [])
 summaries_of-push count occurrences o d lt =
     ext_get_or d (set old o.name new) (summaries_of count (occurrences ++ o ∷ []))
-      (length-set old o.name new ∙ length-summaries_of count occurrences ∙ sym (length-summaries_of count (occurrences ++ o ∷ [])))
-      (λ i below. at i (omega (arith, length-set old o.name new, length-summaries_of count occurrences)))
+    (length-set old o.name new ∙ length-summaries_of count occurrences ∙ sym (length-summaries_of count (occurrences ++ o ∷ [])))
+    (λ i below. at i (omega (arith, length-set old o.name new, length-summaries_of count occurrences)))
   where
     old : List Summary
     old = summaries_of count occurrences
+
     new : Summary
     new = with_role (get_or (summaries_of count occurrences) o.name d) o.role
+
     at : (i : ℕ) → i < count → get_or (set (summaries_of count occurrences) o.name (with_role (get_or (summaries_of count occurrences) o.name d) o.role)) i d ≡ get_or (summaries_of count (occurrences ++ o ∷ [])) i d
     at i below = elim (cases_eq i o.name) [
       | inl same ↦
@@ -100,3 +110,16 @@ summaries_of-push count occurrences o d lt =
           ∙ ap summary_of (sym (roles_at-other i occurrences o apart))
           ∙ sym (get_or-summaries_of count (occurrences ++ o ∷ []) i d below)
     ]
+
+-- the same in a walk over occurrences, at its next one
+pub summaries_of-more : (count i : ℕ) (occurrences : List Occurrence) (d : Occurrence) (e : Summary) (summaries : List Summary) (read next : Summary) →
+    i < length occurrences → (get_or occurrences i d).name < count → summaries ≡ summaries_of count (take i occurrences) →
+    read ≡ get_or summaries (get_or occurrences i d).name e → next ≡ with_role read (get_or occurrences i d).role →
+    set summaries (get_or occurrences i d).name next ≡ summaries_of count (take (i + 1) occurrences)
+summaries_of-more count i occurrences d e summaries read next lt within are is becomes =
+    let o = get_or occurrences i d in
+    let before = take i occurrences in
+    ap (λ (s : Summary). set summaries o.name s) (becomes ∙ ap (λ (s : Summary). with_role s o.role) is)
+    ∙ ap (λ (ss : List Summary). set ss o.name (with_role (get_or ss o.name e) o.role)) are
+    ∙ summaries_of-push count before o e within
+    ∙ ap (summaries_of count) (sym (take_more occurrences i d lt))

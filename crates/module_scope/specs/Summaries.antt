@@ -27,7 +27,7 @@ summary_of roles = record {
   first_declared = find declares_net roles;
   first_port = find is_port roles;
   first_net = find is_net roles;
-  makes_net = list_any makes_net roles
+  makes_net = list_any makes_net roles;
 }
 
 -- a count, with one more where the role is of the kind
@@ -48,7 +48,7 @@ with_role s r = record {
   first_declared = first_next s.first_declared (declares_net r) r;
   first_port = first_next s.first_port (is_port r) r;
   first_net = first_next s.first_net (is_net r) r;
-  makes_net = s.makes_net || makes_net r
+  makes_net = s.makes_net || makes_net r;
 }
 
 -- ---- the rules, by summaries

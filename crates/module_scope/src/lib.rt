@@ -16,4 +16,3 @@ mod summaries;
 pub use nets::ScopeNet;
 pub use roles::{NetKind, NetRole, PortRole, Role, Side};
 pub use scopes::{Scope, ScopePlaces};
-

@@ -33,13 +33,7 @@ fn first_next(first: Option<Role>, is_kind: bool, role: Role) -> Option<Role>
 {
     match first {
         Some(first) => Some(first),
-        None => {
-            if is_kind {
-                Some(role)
-            } else {
-                None
-            }
-        }
+        None => { if is_kind { Some(role) } else { None } }
     }
 }
 
