@@ -14,7 +14,7 @@ use Rattle.module_scope.specs.declared.mentions.Occurrence.{Occurrence}
 use Rattle.module_scope.specs.declared.summaries.Summary.{Summary}
 use Rattle.module_scope.specs.Roles.{is_header, is_port, is_net, declares_net, is_declaration, makes_net, more, how_many}
 use Rattle.module_scope.specs.Occurrences.{roles_at}
-use Rattle.module_scope.specs.Summaries.{summary_of, count_next, first_next, with_role, summaries_of, summary_at}
+use Rattle.module_scope.specs.Summaries.{summary_of, count_next, first_next, with_role, summaries_of}
 
 -- ---- one more role
 
@@ -123,3 +123,9 @@ summaries_of-more count i occurrences d e summaries read next lt within are is b
     ∙ ap (λ (ss : List Summary). set ss o.name (with_role (get_or ss o.name e) o.role)) are
     ∙ summaries_of-push count before o e within
     ∙ ap (summaries_of count) (sym (take_more occurrences i d lt))
+
+-- what is read of the summaries at a name
+pub summary_read : (count : ℕ) (occurrences : List Occurrence) (summaries : List Summary) (index : ℕ) (d read : Summary) →
+    index < count → summaries ≡ summaries_of count occurrences → read ≡ get_or summaries index d → read ≡ summary_of (roles_at index occurrences)
+summary_read count occurrences summaries index d read lt are is =
+    is ∙ ap (λ (ss : List Summary). get_or ss index d) are ∙ get_or-summaries_of count occurrences index d lt

@@ -50,18 +50,18 @@ abbrev pub direction_of : Option Role → Option Direction
 direction_of (Some (role.Port port)) = Some port.direction
 direction_of other = None
 
--- the index of the item that declares the net
-abbrev pub item_of : Option Role → Option ℕ
-item_of (Some (role.Net net)) = Some net.item
-item_of other = None
+-- the index of the item that has the delay of the net, where there is one
+abbrev pub delay_of : Option Role → Option ℕ
+delay_of (Some (role.Net net)) = net.delay
+delay_of other = None
 
 -- a net by its first declaration, its first direction, and the first declaration of it as a net
 abbrev pub declared_net : Option ImplicitNetType → Option Role → Option Role → Option Role → ScopeNet
-declared_net default first port net = record { direction = direction_of port; kind = declared_kind default port net; range = first_range first; item = item_of net }
+declared_net default first port net = record { direction = direction_of port; kind = declared_kind default port net; range = first_range first; delay = delay_of net }
 
 -- a net that no declaration of the module declares
 abbrev pub implicit_net : Option ImplicitNetType → ScopeNet
-implicit_net default = record { direction = None; kind = default_kind default; range = None; item = None }
+implicit_net default = record { direction = None; kind = default_kind default; range = None; delay = None }
 
 -- the net of a name, by what the module says of the name: the one that is declared, else an implicit one where a use makes it
 abbrev pub net_of : Option ImplicitNetType → List Role → Option ScopeNet

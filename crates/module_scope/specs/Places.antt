@@ -7,7 +7,7 @@ use Rattle.rule_places.specs.Places.{first_place}
 use Rattle.module_scope.specs.declared.roles.Role.{Role}
 use Rattle.module_scope.specs.declared.rules.NameRule.{NameRule}
 use Rattle.module_scope.specs.declared.rules.NameRule.TheVariants as rule
-use Rattle.module_scope.specs.declared.scopes.ScopePlaces.{ScopePlaces}
+use Rattle.module_scope.specs.declared.places.ScopePlaces.{ScopePlaces}
 use Rattle.module_scope.specs.Mentions.{Mention, roles_of}
 use Rattle.module_scope.specs.Rules.{breaks}
 
