@@ -17,3 +17,6 @@ pub use nets::ScopeNet;
 pub use places::ScopePlaces;
 pub use roles::{NetKind, NetRole, PortRole, Role, Side};
 pub use scopes::Scope;
+
+#[cfg(test)]
+mod tests;

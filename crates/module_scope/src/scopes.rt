@@ -22,7 +22,7 @@ pub struct Scope {
 }
 
 /// The scope of mentions.
-fn scope_with(
+pub fn scope_with(
     alloc: Global,
     default: Option<ImplicitNetType>,
     mentions: MentionList,
