@@ -1,5 +1,7 @@
 //! What a module declares, and the first places of the rules on its names.
-ghost use Rattle.std.specs.Prelude.{◌≡◌, IfOk};
+ghost use Rattle.std.specs.Prelude.{◌≡◌, ℕ, List, IfOk};
+ghost use Rattle.module_scope.specs.Mentions.{mentions_in, roles_of};
+ghost use Rattle.module_scope.specs.Nets.{net_of};
 ghost use Rattle.module_scope.specs.Scopes.{scope_of, scope_with, scope_net};
 
 use crate::items::mentions_in;
@@ -49,7 +51,9 @@ impl Scope {
         module: &Module,
         default: Option<ImplicitNetType>,
     ) -> Result<Scope, AllocError>
-        ensures { IfOk result (λ scope. scope ≡ scope_of default «module».now) }
+        ensures scope { IfOk result (λ scope. scope ≡ scope_of default «module».now) }
+        ensures nets { IfOk result (λ scope. (name : List ℕ) → scope_net scope name
+            ≡ net_of default (roles_of name (mentions_in «module».now))) }
     {
         let mentions = mentions_in(alloc, module)?;
         scope_with(alloc, default, mentions)
