@@ -1,8 +1,8 @@
 -- The places of mentions, by the indices of their names.
-use Rattle.std.proofs.Common.{◌≡◌, ℕ, zero, suc, ◌+◌, ◌<◌, ◌≤◌, Bool, true, false, cond, not, ◌||◌, ◌&&◌, List, [], ◌∷◌, ◌++◌, length, map, get_or, take, drop, eqb, Option, None, Some, refl, sym, ap, subst, ◌∙◌, arith, inl, inr, drop-cons, add-one}
+use Rattle.std.proofs.Common.{◌≡◌, ℕ, zero, suc, ◌+◌, ◌<◌, ◌≤◌, Bool, true, false, cond, not, ◌||◌, List, [], ◌∷◌, ◌++◌, length, map, get_or, take, drop, eqb, Option, None, Some, refl, sym, ap, ◌∙◌, arith, inl, inr, drop-cons, add-one}
 use Rattle.std.specs.List.{All, filter}
 use Rattle.std.specs.Option.{is_some}
-use Rattle.std.proofs.lemmas.Bool.{cases_eq, cases_Bool, and_parts, or_parts, not-true, both_ways, false_from_ne_true, eq-eqb, ne_eqb}
+use Rattle.std.proofs.lemmas.Bool.{cases_eq, and_parts, not-true, both_ways, false_from_ne_true, eq-eqb, ne_eqb}
 use Rattle.std.proofs.lemmas.List.{map-append, ext_get_or, get_or-map, length-map, take_more, drop_all}
 use Rattle.std.proofs.lemmas.List.Elements.{All-head, All-tail, All-nil, All-push}
 use Rattle.v_tree.specs.declared.locations.Location.{Location}
@@ -19,7 +19,7 @@ use Rattle.module_scope.specs.declared.rules.NameRule.TheVariants as rule
 use Rattle.module_scope.specs.declared.nets.ScopeNet.{ScopeNet}
 use Rattle.module_scope.specs.declared.scopes.Scope.{Scope}
 use Rattle.module_scope.specs.declared.places.ScopePlaces.{ScopePlaces}
-use Rattle.module_scope.specs.Mentions.{Mention, roles_of, first_names}
+use Rattle.module_scope.specs.Mentions.{Mention, roles_of}
 use Rattle.module_scope.specs.Rules.{breaks}
 use Rattle.module_scope.specs.Nets.{net_of, nets_of}
 use Rattle.module_scope.specs.Places.{place_if, places_behind, rule_place, scope_places}

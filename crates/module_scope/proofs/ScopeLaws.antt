@@ -1,17 +1,15 @@
 -- What a scope says of each name.
-use Rattle.std.proofs.Common.{◌≡◌, ℕ, suc, ◌+◌, ◌<◌, Bool, true, false, cond, ◌||◌, List, [], ◌∷◌, ◌++◌, length, map, get_or, Option, None, Some, slice_get, Result, Ok, Err, IfOk, refl, sym, ap, subst, ◌∙◌, append_assoc}
+use Rattle.std.proofs.Common.{◌≡◌, ℕ, Bool, true, false, cond, ◌||◌, List, [], ◌∷◌, ◌++◌, map, Option, None, Some, Result, Ok, Err, IfOk, refl, sym, ap, subst, ◌∙◌, append_assoc}
 use Rattle.std.specs.List.{filter}
-use Rattle.std.specs.Option.{option_flatten, option_map, is_some}
+use Rattle.std.specs.Option.{option_flatten, option_map}
 use Rattle.std.proofs.lemmas.Bool.{both_ways, or_parts, false_from_ne_true}
 use Rattle.std.proofs.lemmas.Option.{slice_get-map, slice_get-get_or}
 use Rattle.name_table.specs.Names.{same_name, is_among, index_of}
 use Rattle.v_tree.specs.declared.directives.ImplicitNetType.{ImplicitNetType}
 use Rattle.v_tree.specs.declared.modules.Module.{Module}
-use Rattle.module_scope.specs.declared.roles.Role.{Role}
-use Rattle.module_scope.specs.declared.nets.ScopeNet.{ScopeNet}
 use Rattle.module_scope.specs.declared.scopes.Scope.{Scope}
 use Rattle.module_scope.specs.Mentions.{Mention, mentions_in, roles_of, new_names, first_names}
-use Rattle.module_scope.specs.Nets.{net_of, nets_of}
+use Rattle.module_scope.specs.Nets.{net_of}
 use Rattle.module_scope.specs.Scopes.{net_at, scope_net, scope_with, scope_of}
 use Rattle.module_scope.proofs.Naming.{index_within, index_name, index_absent, same_name-true}
 

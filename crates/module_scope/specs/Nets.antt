@@ -1,7 +1,7 @@
 -- The one net that a name has in a module.
-use Rattle.std.specs.Prelude.{ℕ, Bool, ◌&&◌, List, [], ◌∷◌, map, Option, Some, None, if◌then◌else◌}
+use Rattle.std.specs.Prelude.{ℕ, ◌&&◌, List, map, Option, Some, None, if◌then◌else◌}
 use Rattle.std.specs.List.{find, list_any}
-use Rattle.std.specs.Option.{is_some, is_none, option_map}
+use Rattle.std.specs.Option.{is_some}
 use Rattle.v_tree.specs.declared.declarations.Direction.{Direction}
 use Rattle.v_tree.specs.declared.declarations.NetType.{NetType}
 use Rattle.v_tree.specs.declared.declarations.NetType.TheVariants as net_type
@@ -15,7 +15,7 @@ use Rattle.module_scope.specs.declared.roles.Role.TheVariants as role
 use Rattle.module_scope.specs.declared.nets.ScopeNet.{ScopeNet}
 use Rattle.module_scope.specs.Roles.{is_port, is_net, declares_net, makes_net}
 use Rattle.module_scope.specs.Rules.{first_range}
-use Rattle.module_scope.specs.Mentions.{Mention, roles_of, first_names}
+use Rattle.module_scope.specs.Mentions.{Mention, roles_of}
 
 -- the kind of implicit nets and of ports without a net type: an implicit trireg has a medium charge, and under `none` such a port is a wire (IEEE 1364-2005, 19.2)
 abbrev pub default_kind : Option ImplicitNetType → NetKind

@@ -1,10 +1,8 @@
 -- What bodies alone need: mentions by the index of their name.
 use Rattle.std.specs.Prelude.{◌≡◌, ℕ, ◌<◌, nat_eq, Bool, List, [], ◌∷◌, ◌++◌, length, map, slice_index_or, Option}
 use Rattle.std.specs.List.{All, filter}
-use Rattle.std.specs.Option.{is_some}
 use Rattle.v_tree.specs.declared.locations.Location.{Location}
 use Rattle.v_tree.specs.declared.locations.Name.{Name}
-use Rattle.v_tree.specs.declared.directives.ImplicitNetType.{ImplicitNetType}
 use Rattle.rule_places.specs.Places.{first_place}
 use Rattle.module_scope.specs.declared.roles.Role.{Role}
 use Rattle.module_scope.specs.declared.mentions.Occurrence.{Occurrence}

@@ -1,5 +1,5 @@
 -- What bodies alone need: what the rules ask of the roles of a name, kept in a summary of them.
-use Rattle.std.specs.Prelude.{◌≡◌, ℕ, ◌<◌, nat_eq, Bool, true, false, not, ◌&&◌, ◌||◌, List, [], ◌∷◌, ◌++◌, length, map, Option, Some, None, if◌then◌else◌}
+use Rattle.std.specs.Prelude.{ℕ, Bool, false, not, ◌&&◌, ◌||◌, List, map, Option, Some, None, if◌then◌else◌}
 use Rattle.std.specs.List.{find, list_any, range_with_len}
 use Rattle.std.specs.Option.{is_some, is_none, option_or}
 use Rattle.v_tree.specs.declared.directives.ImplicitNetType.{ImplicitNetType}
@@ -8,7 +8,6 @@ use Rattle.rule_places.specs.Places.{earliest}
 use Rattle.module_scope.specs.declared.roles.Role.{Role}
 use Rattle.module_scope.specs.declared.roles.Role.TheVariants as role
 use Rattle.module_scope.specs.declared.roles.Count.{Count}
-use Rattle.module_scope.specs.declared.roles.Count.TheVariants.{Zero}
 use Rattle.module_scope.specs.declared.rules.NameRule.{NameRule}
 use Rattle.module_scope.specs.declared.rules.NameRule.TheVariants as rule
 use Rattle.module_scope.specs.declared.mentions.Occurrence.{Occurrence}

@@ -1,12 +1,8 @@
-use Rattle.std.proofs.Common.{◌≡◌, ◌<◌, ◌≤◌, ◌+◌, ap, sym, ◌∙◌, Bool, true, false, List, [], length, get_or, take, drop, Option, Some}
+use Rattle.std.proofs.Common.{◌≡◌, ◌<◌, ◌+◌, ap, sym, ◌∙◌, length, get_or, take, drop, Option}
 use Rattle.v_tree.specs.declared.locations.Location.{Location}
 use Rattle.rule_places.specs.Places.{earliest, first_place}
 use Rattle.module_scope.specs.declared.roles.Role.TheVariants.{Header}
 use Rattle.module_scope.specs.declared.mentions.Occurrence.{Occurrence}
-use Rattle.module_scope.specs.declared.summaries.Summary.{Summary}
-use Rattle.module_scope.specs.declared.rules.NameRule.{NameRule}
-use Rattle.module_scope.specs.declared.places.ScopePlaces.{ScopePlaces}
-use Rattle.module_scope.specs.Rules.{breaks}
 use Rattle.module_scope.specs.Occurrences.{roles_at, occurrence_places}
 use Rattle.module_scope.specs.Summaries.{summary_of}
 use Rattle.module_scope.proofs.Summing.{summaries_of-more, summary_read}

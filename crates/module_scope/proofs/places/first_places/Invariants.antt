@@ -1,4 +1,4 @@
-use Rattle.std.proofs.Common.{◌≡◌, length, take, drop, []}
+use Rattle.std.proofs.Common.{◌≡◌, length, take, drop}
 use Rattle.rule_places.specs.Places.{earliest, first_place}
 use Rattle.module_scope.specs.declared.rules.NameRule.{NameRule}
 use Rattle.module_scope.specs.Occurrences.{occurrence_place, occurrence_places}

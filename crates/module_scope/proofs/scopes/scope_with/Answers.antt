@@ -1,10 +1,8 @@
-use Rattle.std.proofs.Common.{◌≡◌, ◌<◌, ap, sym, subst, ◌∙◌, List, length, map, arith, ℕ, Bool, get_or}
+use Rattle.std.proofs.Common.{◌≡◌, ◌<◌, ap, sym, subst, ◌∙◌, length, map, ℕ, Bool}
 use Rattle.std.proofs.lemmas.List.Elements.{All-same}
 use Rattle.std.specs.List.{All}
 use Rattle.std.specs.Option.{is_some}
 use Rattle.module_scope.specs.declared.mentions.Occurrence.{Occurrence}
-use Rattle.module_scope.specs.declared.summaries.Summary.{Summary}
-use Rattle.module_scope.specs.declared.nets.ScopeNet.{ScopeNet}
 use Rattle.module_scope.specs.Occurrences.{occurrences_places}
 use Rattle.module_scope.specs.Summaries.{summaries_of, summary_net}
 use Rattle.module_scope.proofs.Summing.{length-summaries_of}
