@@ -1,0 +1,5 @@
+pub mod Naming
+pub mod Uses
+pub mod Summing
+pub mod Placing
+pub mod ScopeLaws
