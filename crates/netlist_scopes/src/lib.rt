@@ -2,5 +2,11 @@
 //! the first rule on them that it breaks.
 #![tactic(auto)]
 
+mod places;
+mod rules;
+
+pub use places::NetlistPlaces;
+pub use rules::{BrokenRule, NetlistRule, RulePlace, first_broken};
+
 #[cfg(test)]
 mod tests;
