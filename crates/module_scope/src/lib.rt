@@ -1,0 +1,21 @@
+//! What a module declares and uses: the nets of its names, and the first place of each rule on names
+//! that it breaks.
+#![tactic(auto)]
+
+mod expressions;
+mod headers;
+mod items;
+mod mentions;
+mod nets;
+mod places;
+mod roles;
+mod rules;
+mod scopes;
+mod summaries;
+
+pub use nets::ScopeNet;
+pub use roles::{NetKind, NetRole, PortRole, Role, Side};
+pub use scopes::{Scope, ScopePlaces};
+
+#[cfg(test)]
+mod tests;
