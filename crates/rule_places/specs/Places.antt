@@ -1,6 +1,6 @@
 -- Places of a text at which a rule is broken, each the location of a token, and the first of them.
-use Rattle.std.specs.Prelude.{◌≤◌, List, [], ◌∷◌, Option, None, Some, nat_lt, if◌then◌else◌}
-use Rattle.std.specs.List.{All, Contains}
+use Rattle.std.specs.Prelude.{◌≤◌, Bool, List, [], ◌∷◌, Option, None, Some, map, nat_lt, if◌then◌else◌}
+use Rattle.std.specs.List.{All, Contains, filter}
 use Rattle.v_tree.specs.declared.locations.Location.{Location}
 
 -- of two places the one with the smaller token, and of two with the same token the first
@@ -17,6 +17,10 @@ earliest (Some a) (Some b) = Some (earlier a b)
 abbrev pub first_place : List Location → Option Location
 first_place [] = None
 first_place (place ∷ places) = earliest (Some place) (first_place places)
+
+-- the places of those that break a rule, in their order
+abbrev pub places_where : {X : Type 0} → (X → Bool) → (X → Location) → List X → List Location
+places_where breaks place_of xs = map place_of (filter breaks xs)
 
 -- a place of a list, where no place of the list has a smaller token
 pub record IsFirst (places : List Location) (place : Location) : Type 0 where

@@ -1,0 +1,3 @@
+pub mod Precisions
+pub mod InForce
+pub mod Walks

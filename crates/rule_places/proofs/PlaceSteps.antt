@@ -1,0 +1,59 @@
+-- Steps of loops that keep the first of the places that they have seen: what was seen, and what is left.
+use Rattle.std.proofs.Common.{◌≡◌, ℕ, suc, ◌+◌, ◌<◌, ◌≤◌, Bool, true, false, cond, List, [], ◌∷◌, ◌++◌, length, get_or, drop, Option, Some, refl, sym, ap, ◌∙◌, add-one, drop-cons}
+use Rattle.std.specs.List.{flat_map}
+use Rattle.std.proofs.lemmas.List.{drop_all}
+use Rattle.v_tree.specs.declared.locations.Location.{Location}
+use Rattle.rule_places.specs.Places.{earliest, first_place, places_where}
+use Rattle.rule_places.proofs.PlaceLaws.{earliest_none, earliest_assoc, first_place-append}
+
+-- the first place so far and those of one more, in place of its places
+next_place : (so_far : Option Location) (places others : List Location) →
+    earliest so_far (first_place (places ++ others)) ≡ earliest (earliest so_far (first_place places)) (first_place others)
+next_place so_far places others =
+    ap (λ (rest : Option Location). earliest so_far rest) (first_place-append places others)
+    ∙ sym (earliest_assoc so_far (first_place places) (first_place others))
+
+module _ {X : Type 0} (places_of : X → List Location) (xs : List X) (i : ℕ) (whole so_far : Option Location)
+    (seen : whole ≡ earliest so_far (first_place (flat_map places_of (drop i xs)))) where
+  -- a step of a loop over all, at the places of one more
+  pub flat_map_step : (x : X) → i < length xs → get_or xs i x ≡ x →
+      whole ≡ earliest (earliest so_far (first_place (places_of x))) (first_place (flat_map places_of (drop (i + 1) xs)))
+  flat_map_step x lt at =
+      seen
+      ∙ ap (λ (rest : List X). earliest so_far (first_place (flat_map places_of rest))) (drop-cons xs i x lt ∙ ap (λ (y : X). y ∷ drop (suc i) xs) at)
+      ∙ next_place so_far (places_of x) (flat_map places_of (drop (suc i) xs))
+      ∙ ap (λ (n : ℕ). earliest (earliest so_far (first_place (places_of x))) (first_place (flat_map places_of (drop n xs)))) (sym (add-one i))
+
+  -- the end of the loop
+  pub flat_map_end : length xs ≤ i → whole ≡ so_far
+  flat_map_end le = seen ∙ ap (λ (rest : List X). earliest so_far (first_place (flat_map places_of rest))) (drop_all i xs le) ∙ earliest_none so_far
+
+one_where : {X : Type 0} (breaks : X → Bool) (place_of : X → Location) (so_far : Option Location) (x : X) (xs : List X) (b : Bool) → breaks x ≡ b →
+    earliest so_far (first_place (places_where breaks place_of (x ∷ xs)))
+    ≡ earliest (cond b (earliest so_far (Some (place_of x))) so_far) (first_place (places_where breaks place_of xs))
+one_where breaks place_of so_far x xs true e = rw e (next_place so_far (place_of x ∷ []) (places_where breaks place_of xs))
+one_where breaks place_of so_far x xs false e = rw e refl
+
+module _ {X : Type 0} (breaks : X → Bool) (place_of : X → Location) (xs : List X) (i : ℕ) (whole so_far : Option Location)
+    (seen : whole ≡ earliest so_far (first_place (places_where breaks place_of (drop i xs)))) where
+  where_step : (x : X) → i < length xs → get_or xs i x ≡ x → (b : Bool) → breaks x ≡ b →
+      whole ≡ earliest (cond b (earliest so_far (Some (place_of x))) so_far) (first_place (places_where breaks place_of (drop (i + 1) xs)))
+  where_step x lt at b e =
+      seen
+      ∙ ap (λ (rest : List X). earliest so_far (first_place (places_where breaks place_of rest))) (drop-cons xs i x lt ∙ ap (λ (y : X). y ∷ drop (suc i) xs) at)
+      ∙ one_where breaks place_of so_far x (drop (suc i) xs) b e
+      ∙ ap (λ (n : ℕ). earliest (cond b (earliest so_far (Some (place_of x))) so_far) (first_place (places_where breaks place_of (drop n xs)))) (sym (add-one i))
+
+  -- a step of a loop over those that may break a rule, at one that does
+  pub where_step_yes : (x : X) → i < length xs → get_or xs i x ≡ x → breaks x ≡ true →
+      whole ≡ earliest (earliest so_far (Some (place_of x))) (first_place (places_where breaks place_of (drop (i + 1) xs)))
+  where_step_yes x lt at broken = where_step x lt at true broken
+
+  -- at one that doesn't
+  pub where_step_no : (x : X) → i < length xs → get_or xs i x ≡ x → breaks x ≡ false →
+      whole ≡ earliest so_far (first_place (places_where breaks place_of (drop (i + 1) xs)))
+  where_step_no x lt at kept = where_step x lt at false kept
+
+  -- the end of the loop
+  pub where_end : length xs ≤ i → whole ≡ so_far
+  where_end le = seen ∙ ap (λ (rest : List X). earliest so_far (first_place (places_where breaks place_of rest))) (drop_all i xs le) ∙ earliest_none so_far
