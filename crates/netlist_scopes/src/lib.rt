@@ -3,10 +3,13 @@
 #![tactic(auto)]
 
 mod places;
+mod reached;
 mod rules;
+mod scopes;
 
 pub use places::NetlistPlaces;
 pub use rules::{BrokenRule, NetlistRule, RulePlace, first_broken};
+pub use scopes::{ScopeList, scopes_of};
 
 #[cfg(test)]
 mod tests;
