@@ -3,7 +3,7 @@
 use super::NetlistRow;
 
 #[rattlefmt::skip]
-static ROWS: [NetlistRow; 24] = [
+static ROWS: [NetlistRow; 26] = [
     NetlistRow {
         shows: "a module with nothing in it",
         text: "module t; endmodule",
@@ -77,6 +77,16 @@ static ROWS: [NetlistRow; 24] = [
     NetlistRow {
         shows: "library text",
         text: "`timescale 1ns/10ps\n`celldefine\nmodule inv(y, a);\noutput y; input a;\nnot #(0.25, 0.5) (y, a);\nspecify (a => y) = (1.5, 2); endspecify\nendmodule\n`endcelldefine\n`resetall\n`default_nettype none\nmodule t(input a, output y);\nwire w;\ninv u(.y(w), .a(a)), v(.y(y), .a(w));\nendmodule\n",
+        top: None, broken: None,
+    },
+    NetlistRow {
+        shows: "a time scale",
+        text: "`timescale 10ns/1ns\nmodule m(y, a);\noutput y; input a;\nbuf #0.25 (y, a);\nendmodule\n",
+        top: None, broken: None,
+    },
+    NetlistRow {
+        shows: "a finer time scale behind the module",
+        text: "`timescale 10ns/1ns\nmodule m(y, a);\noutput y; input a;\nbuf #0.25 (y, a);\nendmodule\n`timescale 1ns/100ps\n",
         top: None, broken: None,
     },
     NetlistRow {

@@ -3,11 +3,16 @@
 use super::{BrokenLine, NetlistRow};
 
 #[rattlefmt::skip]
-static ROWS: [NetlistRow; 36] = [
+static ROWS: [NetlistRow; 37] = [
     NetlistRow {
         shows: "a terminal",
         text: "`default_nettype none\nmodule t(y, a);\noutput y; input a;\nbuf (y, w);\nendmodule\n",
         top: None, broken: Some(BrokenLine { rule: 20, line: 4 }),
+    },
+    NetlistRow {
+        shows: "a name that is no net's on line 4",
+        text: "module s; endmodule\n`default_nettype none\nmodule m(y); output y;\nbuf (y, w);\nendmodule\n",
+        top: Some("m"), broken: Some(BrokenLine { rule: 20, line: 4 }),
     },
     NetlistRow {
         shows: "an output terminal",

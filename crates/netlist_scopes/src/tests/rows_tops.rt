@@ -3,7 +3,7 @@
 use super::{BrokenLine, NetlistRow};
 
 #[rattlefmt::skip]
-static ROWS: [NetlistRow; 33] = [
+static ROWS: [NetlistRow; 34] = [
     NetlistRow {
         shows: "an empty text",
         text: "",
@@ -82,6 +82,11 @@ static ROWS: [NetlistRow; 33] = [
     NetlistRow {
         shows: "a module that instantiates itself",
         text: "\nmodule a;\na u();\nendmodule\n",
+        top: None, broken: Some(BrokenLine { rule: 2, line: 1 }),
+    },
+    NetlistRow {
+        shows: "a module that instantiates itself with its port",
+        text: "module m(m1);\noutput m1;\nm u (m1);\nendmodule\n",
         top: None, broken: Some(BrokenLine { rule: 2, line: 1 }),
     },
     NetlistRow {

@@ -3,7 +3,12 @@
 use super::{BrokenLine, NetlistRow};
 
 #[rattlefmt::skip]
-static ROWS: [NetlistRow; 51] = [
+static ROWS: [NetlistRow; 52] = [
+    NetlistRow {
+        shows: "a right side of a name that stands nowhere else",
+        text: "module m(y);\noutput y;\nassign y = q;\nendmodule\n",
+        top: None, broken: Some(BrokenLine { rule: 7, line: 3 }),
+    },
     NetlistRow {
         shows: "a right side",
         text: "module t(y, a);\noutput y; input a;\nassign y = w;\nendmodule\n",
