@@ -1,2 +1,3 @@
 pub mod Rules
 pub mod Reached
+pub mod Scopes

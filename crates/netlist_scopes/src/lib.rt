@@ -9,7 +9,7 @@ mod scopes;
 
 pub use places::NetlistPlaces;
 pub use rules::{BrokenRule, NetlistRule, RulePlace, first_broken};
-pub use scopes::{ScopeList, scopes_of};
+pub use scopes::{ScopeList, Scopes};
 
 #[cfg(test)]
 mod tests;

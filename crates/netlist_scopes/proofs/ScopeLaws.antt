@@ -1,0 +1,21 @@
+-- The laws of the scopes of a file.
+use Rattle.std.proofs.Common.{◌≡◌, ℕ, Bool, false, List, length, Option, None, Some, ◌∙◌}
+use Rattle.std.proofs.lemmas.List.{length-map, length-replicate}
+use Rattle.std.proofs.lemmas.List.FromFn.{length-map-range_with_len}
+use Rattle.v_tree.specs.declared.modules.Module.{Module}
+use Rattle.v_tree.specs.declared.primitives.UdpDecl.{UdpDecl}
+use Rattle.module_graph.specs.declared.references.Reference.{Reference}
+use Rattle.module_graph.specs.Graph.{Graph, graph_of, master_of, module_names, references_in, udp_names}
+use Rattle.module_graph.specs.Reach.{is_reached}
+use Rattle.netlist_scopes.specs.Scopes.{reached_from}
+
+-- each module has its references
+length-references : (modules : List Module) (udps : List UdpDecl) → length (graph_of modules udps).references ≡ length modules
+length-references modules udps = length-map modules (λ (m : Module). references_in (master_of (module_names modules) (udp_names udps)) m.items)
+
+-- of each module it is told whether it is reached
+pub length-reached_from : (modules : List Module) (udps : List UdpDecl) (top : Option ℕ) → length (reached_from (graph_of modules udps) top) ≡ length modules
+length-reached_from modules udps None =
+    length-replicate (length (graph_of modules udps).references) false ∙ length-references modules udps
+length-reached_from modules udps (Some top) =
+    length-map-range_with_len (is_reached (graph_of modules udps).references top) 0 (length (graph_of modules udps).references) ∙ length-references modules udps
