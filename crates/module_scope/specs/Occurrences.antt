@@ -54,5 +54,5 @@ occurrences_places default occurrences = record {
   undeclared = occurrence_place rule.Undeclared (is_some default) occurrences;
   selects = occurrence_place rule.Selects (is_some default) occurrences;
   ranges = occurrence_place rule.Ranges (is_some default) occurrences;
-  implicit = occurrence_place rule.Implicit (is_some default) occurrences
+  implicit = occurrence_place rule.Implicit (is_some default) occurrences;
 }

@@ -38,5 +38,5 @@ scope_places default mentions = record {
   undeclared = rule_place rule.Undeclared default mentions;
   selects = rule_place rule.Selects default mentions;
   ranges = rule_place rule.Ranges default mentions;
-  implicit = rule_place rule.Implicit default mentions
+  implicit = rule_place rule.Implicit default mentions;
 }

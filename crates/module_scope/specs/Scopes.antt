@@ -15,7 +15,7 @@ abbrev pub scope_with : Option ImplicitNetType → List Mention → Scope
 scope_with default mentions = record {
   names = first_names mentions;
   nets = nets_of default mentions (first_names mentions);
-  places = scope_places default mentions
+  places = scope_places default mentions;
 }
 
 -- the scope of a module under a type of implicit nets, where they are made

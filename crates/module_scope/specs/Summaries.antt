@@ -1,5 +1,5 @@
 -- What bodies alone need: what the rules ask of the roles of a name, kept in a summary of them.
-use Rattle.std.specs.Prelude.{◌≡◌, ℕ, ◌<◌, nat_eq, Bool, true, false, not, ◌&&◌, ◌||◌, List, [], ◌∷◌, ◌++◌, length, map, slice_index_or, slice_set, Option, Some, None, if◌then◌else◌}
+use Rattle.std.specs.Prelude.{◌≡◌, ℕ, ◌<◌, nat_eq, Bool, true, false, not, ◌&&◌, ◌||◌, List, [], ◌∷◌, ◌++◌, length, map, slice_index_or, Option, Some, None, if◌then◌else◌}
 use Rattle.std.specs.List.{find, list_any, range_with_len}
 use Rattle.std.specs.Option.{is_some, is_none, option_or}
 use Rattle.v_tree.specs.declared.directives.ImplicitNetType.{ImplicitNetType}
@@ -27,7 +27,7 @@ summary_of roles = record {
   first_declared = find declares_net roles;
   first_port = find is_port roles;
   first_net = find is_net roles;
-  makes_net = list_any makes_net roles
+  makes_net = list_any makes_net roles;
 }
 
 -- a count, with one more where the role is of the kind
@@ -48,7 +48,7 @@ with_role s r = record {
   first_declared = first_next s.first_declared (declares_net r) r;
   first_port = first_next s.first_port (is_port r) r;
   first_net = first_next s.first_net (is_net r) r;
-  makes_net = s.makes_net || makes_net r
+  makes_net = s.makes_net || makes_net r;
 }
 
 -- ---- the rules, by summaries
@@ -109,7 +109,3 @@ summaries_of count occurrences = map (λ index. summary_of (roles_at index occur
 -- the summary of a name
 abbrev pub summary_at : List Summary → ℕ → Summary
 summary_at summaries index = slice_index_or summaries index (summary_of [])
-
--- the summaries when one more occurrence has come
-abbrev pub with_occurrence : List Summary → Occurrence → List Summary
-with_occurrence summaries o = slice_set summaries o.name (with_role (summary_at summaries o.name) o.role)

@@ -18,11 +18,7 @@ pub fn push_names(list: &mut MentionList, role: Role, names: &[Name]) -> Result<
 }
 
 /// Adds a mention of the name, where there is one.
-pub fn push_name(
-    list: &mut MentionList,
-    role: Role,
-    name: &Option<Name>,
-) -> Result<(), AllocError>
+pub fn push_name(list: &mut MentionList, role: Role, name: &Option<Name>) -> Result<(), AllocError>
     ensures { OnOk result (list.new ≡ list.old ++ name_mentions role name.now) }
 {
     if let Some(name) = name {

@@ -68,11 +68,7 @@ fn trireg_role(index: usize, decl: &TriregDecl) -> NetRole
 }
 
 /// Adds names that are declared and assigned.
-fn push_valued(
-    list: &mut MentionList,
-    net: NetRole,
-    names: &[ValuedName],
-) -> Result<(), AllocError>
+fn push_valued(list: &mut MentionList, net: NetRole, names: &[ValuedName]) -> Result<(), AllocError>
     ensures { OnOk result (list.new ≡ list.old ++ flat_map (valued_mentions net) names.now) }
 {
     for valued in names {

@@ -16,6 +16,3 @@ mod summaries;
 pub use nets::ScopeNet;
 pub use roles::{NetKind, NetRole, PortRole, Role, Side};
 pub use scopes::{Scope, ScopePlaces};
-
-#[cfg(test)]
-mod tests;

@@ -52,7 +52,8 @@ fn push_again(
         name: index,
         location: name.location,
         role,
-    })
+    })?;
+    Ok(())
 }
 
 /// Adds a mention of a name that wasn't mentioned before.

@@ -6,7 +6,7 @@ ghost use Rattle.module_scope.specs.Summaries.{summaries_of, summary_at, summary
 
 use crate::mentions::Occurrence;
 use crate::rules::{NameRule, breaks};
-use crate::summaries::{Summary, add_role, no_summaries};
+use crate::summaries::{Summary, no_summaries};
 use rule_places::earliest;
 use std::alloc::{AllocError, Global};
 use v_tree::Location;
@@ -52,7 +52,7 @@ pub fn rule_place(
         if breaks_at(rule, makes, all, before.as_slice(), occurrence) {
             first = earliest(first, Some(occurrence.location));
         }
-        add_role(before.as_mut_slice(), occurrence);
+        before[occurrence.name] = before[occurrence.name].with_role(occurrence.role);
     }
     Ok(first)
 }

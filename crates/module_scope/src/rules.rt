@@ -1,6 +1,7 @@
 //! The rules on names, each judged from summaries.
 ghost use Rattle.std.specs.Prelude.{◌≡◌, ℕ};
-ghost use Rattle.module_scope.specs.Rules.{is_pair, completes, repeats, is_part, is_within, first_range, range_of, same_bounds, same_range, differs, differs_from};
+ghost use Rattle.module_scope.specs.Rules.{is_pair, completes, repeats, is_part, is_within, first_range, same_bounds, same_range, differs, differs_from};
+ghost use Rattle.module_scope.specs.Roles.{range_of};
 ghost use Rattle.module_scope.specs.Summaries.{summary_breaks_ports, summary_makes_implicit, summary_has_implicit, summary_names_net, summary_breaks_repeated, summary_breaks_undeclared, summary_breaks_implicit, summary_breaks_selects, summary_breaks};
 
 use crate::roles::{Count, Role};

@@ -1,7 +1,7 @@
 //! What the rules ask of the roles of a name, kept in constant room.
-ghost use Rattle.std.specs.Prelude.{◌≡◌, ◌<◌, [], length, IfOk};
+ghost use Rattle.std.specs.Prelude.{◌≡◌, ◌<◌, [], IfOk};
 ghost use Rattle.std.specs.List.{All};
-ghost use Rattle.module_scope.specs.Summaries.{summary_of, count_next, first_next, with_role, summaries_of, with_occurrence};
+ghost use Rattle.module_scope.specs.Summaries.{summary_of, count_next, first_next, with_role, summaries_of};
 
 use crate::mentions::Occurrence;
 use crate::roles::{Count, Role};
@@ -33,13 +33,7 @@ fn first_next(first: Option<Role>, is_kind: bool, role: Role) -> Option<Role>
 {
     match first {
         Some(first) => Some(first),
-        None => {
-            if is_kind {
-                Some(role)
-            } else {
-                None
-            }
-        }
+        None => { if is_kind { Some(role) } else { None } }
     }
 }
 
@@ -99,15 +93,7 @@ pub fn summaries_of(
 {
     let mut summaries = no_summaries(alloc, count)?;
     for occurrence in occurrences {
-        add_role(summaries.as_mut_slice(), occurrence);
+        summaries[occurrence.name] = summaries[occurrence.name].with_role(occurrence.role);
     }
     Ok(summaries)
-}
-
-/// Adds the role of an occurrence to the summary of its name.
-pub fn add_role(summaries: &mut [Summary], occurrence: &Occurrence)
-    requires { occurrence.now.name < length summaries.old }
-    ensures { summaries.new ≡ with_occurrence summaries.old occurrence.now }
-{
-    summaries[occurrence.name] = summaries[occurrence.name].with_role(occurrence.role);
 }

@@ -1,0 +1,4 @@
+pub mod Naming
+pub mod Uses
+pub mod Summing
+pub mod Placing
