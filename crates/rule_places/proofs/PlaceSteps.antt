@@ -1,6 +1,6 @@
 -- Steps of loops that keep the first of the places that they have seen: what was seen, and what is left.
-use Rattle.std.proofs.Common.{◌≡◌, ℕ, suc, ◌+◌, ◌<◌, ◌≤◌, Bool, true, false, cond, List, [], ◌∷◌, ◌++◌, length, get_or, drop, Option, Some, refl, sym, ap, ◌∙◌, add-one, drop-cons}
-use Rattle.std.specs.List.{flat_map}
+use Rattle.std.proofs.Common.{◌≡◌, ℕ, suc, ◌+◌, ◌<◌, ◌≤◌, Bool, true, false, cond, List, [], ◌∷◌, ◌++◌, length, get_or, drop, map, Option, Some, refl, sym, ap, ◌∙◌, add-one, drop-cons}
+use Rattle.std.specs.List.{flat_map, filter}
 use Rattle.std.proofs.lemmas.List.{drop_all}
 use Rattle.v_tree.specs.declared.locations.Location.{Location}
 use Rattle.rule_places.specs.Places.{earliest, first_place, places_where}
@@ -57,3 +57,27 @@ module _ {X : Type 0} (breaks : X → Bool) (place_of : X → Location) (xs : Li
   -- the end of the loop
   pub where_end : length xs ≤ i → whole ≡ so_far
   where_end le = seen ∙ ap (λ (rest : List X). earliest so_far (first_place (places_where breaks place_of rest))) (drop_all i xs le) ∙ earliest_none so_far
+
+-- ---- places of joined lists
+
+append_one : {X : Type 0} (place_of : X → Location) (x : X) (b : Bool) (xs ys zs : List X) → map place_of ys ≡ map place_of xs ++ map place_of zs →
+    map place_of (cond b (x ∷ ys) ys) ≡ map place_of (cond b (x ∷ xs) xs) ++ map place_of zs
+append_one place_of x true xs ys zs e = ap (λ (rest : List Location). place_of x ∷ rest) e
+append_one place_of x false xs ys zs e = e
+
+pub places_where-append : {X : Type 0} (breaks : X → Bool) (place_of : X → Location) (xs ys : List X) →
+    places_where breaks place_of (xs ++ ys) ≡ places_where breaks place_of xs ++ places_where breaks place_of ys
+places_where-append breaks place_of [] ys = refl
+places_where-append breaks place_of (x ∷ xs) ys =
+    append_one place_of x (breaks x) (filter breaks xs) (filter breaks (xs ++ ys)) (filter breaks ys) (places_where-append breaks place_of xs ys)
+
+map_one : {X Y : Type 0} (place_of : Y → Location) (g : X → Y) (x : X) (b : Bool) (xs : List X) (ys : List Y) → map place_of ys ≡ map (λ z. place_of (g z)) xs →
+    map place_of (cond b (g x ∷ ys) ys) ≡ map (λ z. place_of (g z)) (cond b (x ∷ xs) xs)
+map_one place_of g x true xs ys e = ap (λ (rest : List Location). place_of (g x) ∷ rest) e
+map_one place_of g x false xs ys e = e
+
+pub places_where-map : {X Y : Type 0} (breaks : Y → Bool) (place_of : Y → Location) (g : X → Y) (xs : List X) →
+    places_where breaks place_of (map g xs) ≡ places_where (λ x. breaks (g x)) (λ x. place_of (g x)) xs
+places_where-map breaks place_of g [] = refl
+places_where-map breaks place_of g (x ∷ xs) =
+    map_one place_of g x (breaks (g x)) (filter (λ z. breaks (g z)) xs) (filter breaks (map g xs)) (places_where-map breaks place_of g xs)
