@@ -119,7 +119,7 @@ fn netlist_places(
         ≡ netlist_places file.now.modules file.now.udps file.now.directives graph.now top reached.now) }
 {
     Ok(NetlistPlaces {
-        repeated_names: repeated_name(alloc, file.modules.as_slice(), file.udps.as_slice())?,
+        repeated_names: repeated_name(alloc, &file.modules, &file.udps)?,
         absent_top: absent_top(top),
         unknown_masters: graph.unknown_master(reached),
         circular_references: graph.circular_reference(alloc, reached)?,
@@ -170,7 +170,7 @@ impl Scopes {
         ensures { IfOk result (λ scopes. scopes
             ≡ scopes_of file.now.modules file.now.udps file.now.directives (option_copied choice.entry)) }
     {
-        let graph = ModuleGraph::new(alloc, file.modules.as_slice(), file.udps.as_slice())?;
+        let graph = ModuleGraph::new(alloc, &file.modules, &file.udps)?;
         let top = graph.top(choice);
         let reached = reached_from(alloc, &graph, top)?;
         scopes_with(alloc, file, graph, top, reached)

@@ -14,6 +14,7 @@ mod rows_selects;
 mod rows_tops;
 mod rows_undeclared;
 
+use super::*;
 use std::alloc::Global;
 use std::process::Abort;
 use std::test::Fail;
@@ -21,6 +22,7 @@ use v_lexer::tokens;
 use v_parser::parse;
 
 /// A broken rule, by the number in its message, and the line of its first place.
+#[derive(Clone, Copy, Debug, PartialEq, Eq)]
 pub struct BrokenLine {
     pub rule: u8,
     pub line: u32,
@@ -35,17 +37,31 @@ pub struct NetlistRow {
     pub broken: Option<BrokenLine>,
 }
 
+/// The rule that is answered for a row's netlist, where one is broken.
+fn broken_line(alloc: Global, row: &NetlistRow, text: &[u8]) -> Result<Option<BrokenLine>, Fail>
+    requires { length text.now ≤ 67108864 }
+{
+    let list = tokens(alloc, text)?;
+    let file = parse(alloc, text, &list)?;
+    let choice = match row.top {
+        Some(name) => Some(name.as_bytes()),
+        None => None,
+    };
+    let scopes = Scopes::new(alloc, &file, choice)?;
+    match scopes.broken_rule() {
+        Some(broken) => Ok(Some(BrokenLine {
+            rule: broken.rule.number(),
+            line: broken.line,
+        })),
+        None => Ok(None),
+    }
+}
+
 fn assert_row(rt: &impl Abort, alloc: Global, row: &NetlistRow) -> Result<(), Fail> {
     let text = row.text.as_bytes();
     assert!(rt; text.len() <= 67108864, "{}", row.shows);
-    let list = tokens(alloc, text)?;
-    let _file = parse(alloc, text, &list)?;
-    assert!(rt; row.top.is_none() || row.top.is_some(), "{}", row.shows);
-    assert!(rt;
-        row.broken.is_none() || row.broken.is_some(),
-        "{}",
-        row.shows
-    );
+    let broken = broken_line(alloc, row, text)?;
+    assert_eq!(rt; broken, row.broken, "{}", row.shows);
     Ok(())
 }
 
