@@ -10,7 +10,8 @@ use Rattle.rule_places.proofs.PlaceLaws.{earliest_none, earliest_assoc, first_pl
 use Rattle.module_scope.specs.declared.scopes.Scope.{Scope}
 use Rattle.module_scope.specs.declared.scopes.ScopePlaces.{ScopePlaces}
 use Rattle.module_scope.specs.declared.rules.NameRule.TheVariants as rule
-use Rattle.netlist_scopes.specs.Reached.{earliest_places, no_places, places_among, reached_places, scope_rules, scope_under, with_scope, module_places}
+use Rattle.netlist_scopes.specs.Reached.{module_places, name_places, scope_under}
+use Rattle.netlist_scopes.specs.Walks.{earliest_places, no_places, places_among, with_scope}
 
 -- one more module
 pub places_among-step : (places : ScopePlaces) (reached : List Bool) (scopes : List Scope) (i : ℕ) (r : Bool) (s : Scope) → length reached ≡ length scopes → i < length scopes →
@@ -35,7 +36,7 @@ module _ (field : ScopePlaces → Option Location) (apart : (a b : ScopePlaces) 
 
 -- the first places, scope by scope, are those of the rules over the modules that are reached
 pub places_among-reached : (directives : List Directive) (reached : List Bool) (modules : List Module) →
-    places_among no_places reached (map (scope_under directives) modules) ≡ scope_rules directives reached modules
+    places_among no_places reached (map (scope_under directives) modules) ≡ name_places directives reached modules
 places_among-reached ds reached ms =
     let of : Module → Scope = scope_under ds in
     let ports = among_reached (λ (p : ScopePlaces). p.ports) (λ a b. refl) of (module_places rule.Ports ds) (λ m. refl) no_places reached ms in
@@ -44,7 +45,7 @@ places_among-reached ds reached ms =
     let selects = among_reached (λ (p : ScopePlaces). p.selects) (λ a b. refl) of (module_places rule.Selects ds) (λ m. refl) no_places reached ms in
     let ranges = among_reached (λ (p : ScopePlaces). p.ranges) (λ a b. refl) of (module_places rule.Ranges ds) (λ m. refl) no_places reached ms in
     let implicit = among_reached (λ (p : ScopePlaces). p.implicit) (λ a b. refl) of (module_places rule.Implicit ds) (λ m. refl) no_places reached ms in
-    same (places_among no_places reached (map of ms)) (scope_rules ds reached ms) ports repeated undeclared selects ranges implicit
+    same (places_among no_places reached (map of ms)) (name_places ds reached ms) ports repeated undeclared selects ranges implicit
   where
     made : (p r u s g i : Option Location) → ScopePlaces
     made p r u s g i = record { ports = p; repeated = r; undeclared = u; selects = s; ranges = g; implicit = i }

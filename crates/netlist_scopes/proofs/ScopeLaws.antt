@@ -1,5 +1,5 @@
 -- The laws of the scopes of a file.
-use Rattle.std.proofs.Common.{◌≡◌, ℕ, Bool, false, List, length, Option, None, Some, ◌∙◌}
+use Rattle.std.proofs.Common.{◌≡◌, ℕ, Bool, false, List, ◌++◌, length, map, Option, None, Some, refl, ◌∙◌}
 use Rattle.std.proofs.lemmas.List.{length-map, length-replicate}
 use Rattle.std.proofs.lemmas.List.FromFn.{length-map-range_with_len}
 use Rattle.v_tree.specs.declared.modules.Module.{Module}
@@ -7,7 +7,9 @@ use Rattle.v_tree.specs.declared.primitives.UdpDecl.{UdpDecl}
 use Rattle.module_graph.specs.declared.references.Reference.{Reference}
 use Rattle.module_graph.specs.Graph.{Graph, graph_of, master_of, module_names, references_in, udp_names}
 use Rattle.module_graph.specs.Reach.{is_reached}
-use Rattle.netlist_scopes.specs.Scopes.{reached_from}
+use Rattle.v_tree.specs.declared.directives.Directive.{Directive}
+use Rattle.netlist_scopes.specs.Rules.{broken_rule, first_broken, first_of}
+use Rattle.netlist_scopes.specs.Scopes.{early_places, late_places, netlist_places, reached_from}
 
 -- each module has its references
 length-references : (modules : List Module) (udps : List UdpDecl) → length (graph_of modules udps).references ≡ length modules
@@ -19,3 +21,8 @@ length-reached_from modules udps None =
     length-replicate (length (graph_of modules udps).references) false ∙ length-references modules udps
 length-reached_from modules udps (Some top) =
     length-map-range_with_len (is_reached (graph_of modules udps).references top) 0 (length (graph_of modules udps).references) ∙ length-references modules udps
+
+-- the broken rule is the first of the rules, by their numbers, that has a place
+pub broken_rule-places : (modules : List Module) (udps : List UdpDecl) (directives : List Directive) (graph : Graph) (top : Option ℕ) (reached : List Bool) →
+    broken_rule (netlist_places modules udps directives graph top reached) ≡ first_broken (map first_of (early_places modules udps directives graph top reached ++ late_places modules directives reached))
+broken_rule-places modules udps directives graph top reached = refl

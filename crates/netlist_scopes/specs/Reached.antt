@@ -1,11 +1,11 @@
 -- The rules on the names of modules, over the modules that the top reaches.
-use Rattle.std.specs.Prelude.{Bool, true, false, List, [], ◌∷◌, Option, Some, None, if◌then◌else◌}
+use Rattle.std.specs.Prelude.{Bool, List}
 use Rattle.std.specs.List.{flat_map, items_where_true}
 use Rattle.std.specs.Option.{is_some}
 use Rattle.v_tree.specs.declared.locations.Location.{Location}
 use Rattle.v_tree.specs.declared.directives.Directive.{Directive}
 use Rattle.v_tree.specs.declared.modules.Module.{Module}
-use Rattle.rule_places.specs.Places.{earliest, first_place}
+use Rattle.rule_places.specs.Places.{first_place}
 use Rattle.module_directives.specs.InForce.{settings_at}
 use Rattle.module_scope.specs.declared.rules.NameRule.{NameRule}
 use Rattle.module_scope.specs.declared.rules.NameRule.TheVariants as rule
@@ -28,8 +28,8 @@ abbrev pub reached_places : NameRule → List Directive → List Bool → List M
 reached_places law directives reached modules = flat_map (module_places law directives) (items_where_true reached modules)
 
 -- the first place of each rule on names
-abbrev pub scope_rules : List Directive → List Bool → List Module → ScopePlaces
-scope_rules directives reached modules = record {
+abbrev pub name_places : List Directive → List Bool → List Module → ScopePlaces
+name_places directives reached modules = record {
   ports = first_place (reached_places rule.Ports directives reached modules);
   repeated = first_place (reached_places rule.Repeated directives reached modules);
   undeclared = first_place (reached_places rule.Undeclared directives reached modules);
@@ -37,26 +37,3 @@ scope_rules directives reached modules = record {
   ranges = first_place (reached_places rule.Ranges directives reached modules);
   implicit = first_place (reached_places rule.Implicit directives reached modules);
 }
-
--- ---- for the code: the first places of one scope after the other
-
-abbrev pub no_places : ScopePlaces
-no_places = record { ports = None; repeated = None; undeclared = None; selects = None; ranges = None; implicit = None }
-
-abbrev pub earliest_places : ScopePlaces → ScopePlaces → ScopePlaces
-earliest_places a b = record {
-  ports = earliest a.ports b.ports;
-  repeated = earliest a.repeated b.repeated;
-  undeclared = earliest a.undeclared b.undeclared;
-  selects = earliest a.selects b.selects;
-  ranges = earliest a.ranges b.ranges;
-  implicit = earliest a.implicit b.implicit;
-}
-
-abbrev pub with_scope : ScopePlaces → Bool → Scope → ScopePlaces
-with_scope places is_reached scope = if is_reached then earliest_places places scope.places else places
-
-abbrev pub places_among : ScopePlaces → List Bool → List Scope → ScopePlaces
-places_among places [] scopes = places
-places_among places (is_reached ∷ reached) [] = places
-places_among places (is_reached ∷ reached) (scope ∷ scopes) = places_among (with_scope places is_reached scope) reached scopes

@@ -1,8 +1,9 @@
 -- The rules in the order of their numbers, and the first of them that is broken.
-use Rattle.std.specs.Prelude.{ℕ, List, [], ◌∷◌, ◌++◌, Option, option_and_then}
-use Rattle.std.specs.List.{find}
+use Rattle.std.specs.Prelude.{◌≡◌, ℕ, List, [], ◌∷◌, ◌++◌, Option, option_and_then}
+use Rattle.std.specs.List.{All, find}
 use Rattle.std.specs.Option.{is_some, option_map}
 use Rattle.v_tree.specs.declared.locations.Location.{Location}
+use Rattle.rule_places.specs.Places.{first_place, IsFirst}
 use Rattle.netlist_scopes.specs.declared.rules.NetlistRule.{NetlistRule}
 use Rattle.netlist_scopes.specs.declared.rules.NetlistRule.TheVariants as rule
 use Rattle.netlist_scopes.specs.declared.rules.RulePlace.{RulePlace}
@@ -22,6 +23,27 @@ number_of rule.Selects = 8
 number_of rule.Ranges = 18
 number_of rule.CoarsePrecisions = 19
 number_of rule.ImplicitNets = 20
+
+-- a rule with all places that break it
+pub record RulePlaces : Type 0 where
+  pub rule : NetlistRule
+  pub places : List Location
+
+-- the same with the first of them
+abbrev pub first_of : RulePlaces → RulePlace
+first_of r = record { rule = r.rule; place = first_place r.places }
+
+-- no rule before it is broken, and the line is that of its first place
+pub record IsFirstBroken (rules : List RulePlaces) (broken : BrokenRule) : Type 0 where
+  pub before : List RulePlaces
+  pub here : RulePlaces
+  pub behind : List RulePlaces
+  pub place : Location
+  pub split : rules ≡ before ++ here ∷ behind
+  pub kept : All (λ r. r.places ≡ []) before
+  pub first : IsFirst here.places place
+  pub rule : broken.rule ≡ here.rule
+  pub line : broken.line ≡ place.line
 
 -- a rule with the line of its first place, where it has one
 abbrev pub broken_of : RulePlace → Option BrokenRule

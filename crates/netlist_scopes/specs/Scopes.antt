@@ -15,7 +15,9 @@ use Rattle.module_graph.specs.Top.{top_of}
 use Rattle.module_scope.specs.declared.rules.NameRule.TheVariants as rule
 use Rattle.netlist_scopes.specs.declared.places.NetlistPlaces.{NetlistPlaces}
 use Rattle.netlist_scopes.specs.declared.scopes.Scopes.{Scopes}
+use Rattle.netlist_scopes.specs.declared.rules.NetlistRule.TheVariants as law
 use Rattle.netlist_scopes.specs.Reached.{scope_under, reached_places}
+use Rattle.netlist_scopes.specs.Rules.{RulePlaces}
 
 -- the place of a netlist without a top: the beginning of the text
 abbrev pub absent_tops : Option ℕ → List Location
@@ -42,6 +44,27 @@ netlist_places modules udps directives graph top reached = record {
   coarse_precisions = first_place (coarse_precisions directives);
   implicit = first_place (reached_places rule.Implicit directives reached modules);
 }
+
+-- the rules with the numbers 1 to 8, each with all places that break it
+abbrev pub early_places : List Module → List UdpDecl → List Directive → Graph → Option ℕ → List Bool → List RulePlaces
+early_places modules udps directives graph top reached =
+    record { rule = law.RepeatedNames; places = repeated_names modules udps }
+    ∷ record { rule = law.AbsentTop; places = absent_tops top }
+    ∷ record { rule = law.UnknownMasters; places = unknown_masters graph reached }
+    ∷ record { rule = law.CircularReferences; places = circular_references graph reached }
+    ∷ record { rule = law.Ports; places = reached_places rule.Ports directives reached modules }
+    ∷ record { rule = law.RepeatedDeclarations; places = reached_places rule.Repeated directives reached modules }
+    ∷ record { rule = law.UndeclaredNets; places = reached_places rule.Undeclared directives reached modules }
+    ∷ record { rule = law.Selects; places = reached_places rule.Selects directives reached modules }
+    ∷ []
+
+-- the rules with the numbers 18 to 20, each with all places that break it
+abbrev pub late_places : List Module → List Directive → List Bool → List RulePlaces
+late_places modules directives reached =
+    record { rule = law.Ranges; places = reached_places rule.Ranges directives reached modules }
+    ∷ record { rule = law.CoarsePrecisions; places = coarse_precisions directives }
+    ∷ record { rule = law.ImplicitNets; places = reached_places rule.Implicit directives reached modules }
+    ∷ []
 
 -- the scopes, given the graph, the top and the modules that it reaches
 abbrev pub scopes_with : List Module → List UdpDecl → List Directive → Graph → Option ℕ → List Bool → Scopes

@@ -1,6 +1,6 @@
 //! The rules on the names of modules, over the modules that are reached.
 ghost use Rattle.std.specs.Prelude.{◌≡◌, length};
-ghost use Rattle.netlist_scopes.specs.Reached.{earliest_places, no_places, places_among, with_scope};
+ghost use Rattle.netlist_scopes.specs.Walks.{earliest_places, no_places, places_among, with_scope};
 
 use module_scope::{Scope, ScopePlaces};
 use rule_places::earliest;

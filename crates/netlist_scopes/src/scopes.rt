@@ -2,7 +2,7 @@ ghost use Rattle.std.specs.Prelude.{◌≡◌, ◌≤◌, length, map, replicate
 ghost use Rattle.std.specs.Option.{option_copied};
 ghost use Rattle.rule_places.specs.Places.{first_place};
 ghost use Rattle.module_directives.specs.InForce.{settings_at};
-ghost use Rattle.netlist_scopes.specs.Reached.{scope_under, scope_rules};
+ghost use Rattle.netlist_scopes.specs.Reached.{scope_under, name_places};
 ghost use Rattle.netlist_scopes.specs.Rules.{broken_rule};
 ghost use Rattle.netlist_scopes.specs.Scopes.{absent_tops, reached_from, netlist_places, scopes_with, scopes_from, scopes_of};
 
@@ -97,7 +97,7 @@ fn scopes_and_places(
         parts.0 ≡ map (λ m. settings_at directives.now m.location) modules.now) }
     ensures scopes { IfOk result (λ parts. parts.1 ≡ map (scope_under directives.now) modules.now) }
     ensures places { IfOk result (λ parts.
-        parts.2 ≡ scope_rules directives.now reached.now modules.now) }
+        parts.2 ≡ name_places directives.now reached.now modules.now) }
 {
     let settings = settings_of(alloc, modules, directives)?;
     let scopes = module_scopes(alloc, directives, modules, settings.as_slice())?;
@@ -114,7 +114,7 @@ fn netlist_places(
     reached: &[bool],
     names: ScopePlaces,
 ) -> Result<NetlistPlaces, AllocError>
-    requires { names ≡ scope_rules file.now.directives reached.now file.now.modules }
+    requires { names ≡ name_places file.now.directives reached.now file.now.modules }
     ensures { IfOk result (λ places. places
         ≡ netlist_places file.now.modules file.now.udps file.now.directives graph.now top reached.now) }
 {

@@ -1,5 +1,5 @@
 use Rattle.std.proofs.Common.{◌≡◌, drop}
-use Rattle.netlist_scopes.specs.Reached.{no_places, places_among}
+use Rattle.netlist_scopes.specs.Walks.{no_places, places_among}
 use Rattle.netlist_scopes.proofs.reached.places_among.Given as goal
 
 abbrev pub invariant-loop-i : goal.invariant-loop-i

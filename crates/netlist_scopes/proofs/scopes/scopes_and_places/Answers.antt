@@ -1,6 +1,6 @@
 use Rattle.std.proofs.Common.{List, ap, ◌∙◌}
 use Rattle.module_scope.specs.declared.scopes.Scope.{Scope}
-use Rattle.netlist_scopes.specs.Reached.{no_places, places_among}
+use Rattle.netlist_scopes.specs.Walks.{no_places, places_among}
 use Rattle.netlist_scopes.proofs.ReachedLaws.{places_among-reached}
 use Rattle.netlist_scopes.proofs.scopes.scopes_and_places.Goals as goal
 
