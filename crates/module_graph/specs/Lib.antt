@@ -2,7 +2,10 @@ pub mod Numbers
 pub mod Names
 pub mod Tokens
 pub mod Graph
-pub mod Reach
-pub mod Top
-pub mod Rules
 pub mod Masters
+pub mod Reach
+pub mod Searches
+pub mod Top
+pub mod Marks
+pub mod Order
+pub mod Rules

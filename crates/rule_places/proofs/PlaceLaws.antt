@@ -1,12 +1,12 @@
 -- The laws of the first place.
-use Rattle.std.proofs.Common.{◌≡◌, ℕ, ◌+◌, ◌<◌, ◌≤◌, List, [], ◌∷◌, ◌++◌, length, get_or, take, Option, None, Some, refl, sym, ap, subst, ◌∙◌, arith, inl, inr}
+use Rattle.std.proofs.Common.{◌≡◌, ℕ, ◌+◌, ◌<◌, ◌≤◌, true, List, [], ◌∷◌, ◌++◌, length, get_or, take, Option, None, Some, refl, sym, ap, subst, ◌∙◌, arith, inl, inr}
 use Rattle.std.specs.List.{All, fold, flat_map}
-use Rattle.std.proofs.lemmas.Bool.{cases_lt, lt-ltb, le-ltb}
+use Rattle.std.proofs.lemmas.Bool.{cases_lt, lt-ltb, le-ltb, leb-true, false≢true}
 use Rattle.std.proofs.lemmas.List.{take_more}
 use Rattle.std.proofs.lemmas.List.Concat.{flat_map-append}
 use Rattle.std.proofs.lemmas.List.Elements.{All-nil, All-cons, All-same, All-weaker, Contains-append_left, Contains-append_right, Contains-push}
 use Rattle.v_tree.specs.declared.locations.Location.{Location}
-use Rattle.rule_places.specs.Places.{earlier, earliest, first_place, IsFirst}
+use Rattle.rule_places.specs.Places.{earlier, earliest, first_place, precedes, IsFirst}
 
 -- ---- the earlier of two
 
@@ -39,6 +39,11 @@ earlier_assoc a b c = elim (cases_lt b.token a.token) [
 pub earliest_none : (a : Option Location) → earliest a None ≡ a
 earliest_none None = refl
 earliest_none (Some a) = refl
+
+-- a place that precedes another stays the earlier
+pub earliest_precedes : (a : Option Location) (b : Location) → precedes a b ≡ true → earliest a (Some b) ≡ a
+earliest_precedes None b e = absurd (false≢true e)
+earliest_precedes (Some a) b e = ap (λ (x : Location). Some x) (earlier_first a b (leb-true a.token b.token e))
 
 pub earliest_assoc : (a b c : Option Location) → earliest (earliest a b) c ≡ earliest a (earliest b c)
 earliest_assoc None b c = refl

@@ -1,6 +1,6 @@
 -- Steps of loops that keep the first of the places that they have seen: what was seen, and what is left.
 use Rattle.std.proofs.Common.{◌≡◌, ℕ, suc, ◌+◌, ◌<◌, ◌≤◌, Bool, true, false, cond, List, [], ◌∷◌, ◌++◌, length, get_or, drop, map, Option, Some, refl, sym, ap, ◌∙◌, add-one, drop-cons}
-use Rattle.std.specs.List.{flat_map, filter}
+use Rattle.std.specs.List.{flat_map, filter, enumerate_from}
 use Rattle.std.proofs.lemmas.List.{drop_all}
 use Rattle.v_tree.specs.declared.locations.Location.{Location}
 use Rattle.rule_places.specs.Places.{earliest, first_place, places_where}
@@ -28,6 +28,25 @@ module _ {X : Type 0} (places_of : X → List Location) (xs : List X) (i : ℕ) 
   pub flat_map_end : length xs ≤ i → whole ≡ so_far
   flat_map_end le = seen ∙ ap (λ (rest : List X). earliest so_far (first_place (flat_map places_of rest))) (drop_all i xs le) ∙ earliest_none so_far
 
+cond_same : {X : Type 0} (b : Bool) (x y : X) → x ≡ y → cond b x y ≡ y
+cond_same true x y e = e
+cond_same false x y e = refl
+
+module _ {X : Type 0} (places_of : ℕ × X → List Location) (xs : List X) (i : ℕ) (whole so_far : Option Location)
+    (seen : whole ≡ earliest so_far (first_place (flat_map places_of (enumerate_from i (drop i xs))))) where
+  -- a step of a loop over all with their indexes
+  pub enumerate_step : (x : X) → i < length xs → get_or xs i x ≡ x →
+      whole ≡ earliest (earliest so_far (first_place (places_of (i, x)))) (first_place (flat_map places_of (enumerate_from (i + 1) (drop (i + 1) xs))))
+  enumerate_step x lt at =
+      seen
+      ∙ ap (λ (rest : List X). earliest so_far (first_place (flat_map places_of (enumerate_from i rest)))) (drop-cons xs i x lt ∙ ap (λ (y : X). y ∷ drop (suc i) xs) at)
+      ∙ next_place so_far (places_of (i, x)) (flat_map places_of (enumerate_from (i + 1) (drop (suc i) xs)))
+      ∙ ap (λ (n : ℕ). earliest (earliest so_far (first_place (places_of (i, x)))) (first_place (flat_map places_of (enumerate_from (i + 1) (drop n xs))))) (sym (add-one i))
+
+  -- the end of the loop
+  pub enumerate_end : length xs ≤ i → whole ≡ so_far
+  enumerate_end le = seen ∙ ap (λ (rest : List X). earliest so_far (first_place (flat_map places_of (enumerate_from i rest)))) (drop_all i xs le) ∙ earliest_none so_far
+
 one_where : {X : Type 0} (breaks : X → Bool) (place_of : X → Location) (so_far : Option Location) (x : X) (xs : List X) (b : Bool) → breaks x ≡ b →
     earliest so_far (first_place (places_where breaks place_of (x ∷ xs)))
     ≡ earliest (cond b (earliest so_far (Some (place_of x))) so_far) (first_place (places_where breaks place_of xs))
@@ -53,6 +72,14 @@ module _ {X : Type 0} (breaks : X → Bool) (place_of : X → Location) (xs : Li
   pub where_step_no : (x : X) → i < length xs → get_or xs i x ≡ x → breaks x ≡ false →
       whole ≡ earliest so_far (first_place (places_where breaks place_of (drop (i + 1) xs)))
   where_step_no x lt at kept = where_step x lt at false kept
+
+  -- at one whose place doesn't come before the first so far
+  pub where_step_after : (x : X) → i < length xs → get_or xs i x ≡ x → earliest so_far (Some (place_of x)) ≡ so_far →
+      whole ≡ earliest so_far (first_place (places_where breaks place_of (drop (i + 1) xs)))
+  where_step_after x lt at after =
+      where_step x lt at (breaks x) refl
+      ∙ ap (λ (first : Option Location). earliest first (first_place (places_where breaks place_of (drop (i + 1) xs))))
+      (cond_same (breaks x) (earliest so_far (Some (place_of x))) so_far after)
 
   -- the end of the loop
   pub where_end : length xs ≤ i → whole ≡ so_far

@@ -1,5 +1,5 @@
 -- Places of a text at which a rule is broken, each the location of a token, and the first of them.
-use Rattle.std.specs.Prelude.{◌≤◌, Bool, List, [], ◌∷◌, Option, None, Some, map, nat_lt, if◌then◌else◌}
+use Rattle.std.specs.Prelude.{◌≤◌, Bool, false, List, [], ◌∷◌, Option, None, Some, map, nat_lt, nat_le, if◌then◌else◌}
 use Rattle.std.specs.List.{All, Contains, filter}
 use Rattle.v_tree.specs.declared.locations.Location.{Location}
 
@@ -17,6 +17,11 @@ earliest (Some a) (Some b) = Some (earlier a b)
 abbrev pub first_place : List Location → Option Location
 first_place [] = None
 first_place (place ∷ places) = earliest (Some place) (first_place places)
+
+-- a place is there and isn't behind another
+abbrev pub precedes : Option Location → Location → Bool
+precedes None b = false
+precedes (Some a) b = nat_le a.token b.token
 
 -- the places of those that break a rule, in their order
 abbrev pub places_where : {X : Type 0} → (X → Bool) → (X → Location) → List X → List Location

@@ -2,7 +2,7 @@
 #![tactic(auto)]
 
 ghost use Rattle.std.specs.Prelude.{◌≡◌};
-ghost use Rattle.rule_places.specs.Places.{earlier, earliest};
+ghost use Rattle.rule_places.specs.Places.{earlier, earliest, precedes};
 
 use v_tree::Location;
 
@@ -24,6 +24,16 @@ pub fn earliest(first: Option<Location>, second: Option<Location>) -> Option<Loc
     match (first, second) {
         (Some(one), Some(other)) => Some(earlier(one, other)),
         (None, place) | (place, None) => place,
+    }
+}
+
+/// Whether a place is there and isn't behind another, so that it is the earlier of the two.
+pub fn precedes(first: Option<Location>, second: Location) -> bool
+    ensures { result ≡ precedes first second }
+{
+    match first {
+        Some(place) => place.token <= second.token,
+        None => false,
     }
 }
 

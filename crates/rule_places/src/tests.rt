@@ -22,3 +22,12 @@ fn a_place_is_before_none(rt: HostRuntime) -> Result<(), Fail> {
     assert_eq!(rt; earliest(Some(at(3, 7)), Some(at(2, 6))), Some(at(2, 6)));
     Ok(())
 }
+
+#[test]
+fn a_place_precedes_what_is_not_before_it(rt: HostRuntime) -> Result<(), Fail> {
+    assert!(rt; precedes(Some(at(9, 4)), at(1, 5)));
+    assert!(rt; precedes(Some(at(9, 4)), at(1, 4)));
+    assert!(rt; !precedes(Some(at(1, 5)), at(9, 4)));
+    assert!(rt; !precedes(None, at(9, 4)));
+    Ok(())
+}
