@@ -2,3 +2,4 @@ pub mod Naming
 pub mod Uses
 pub mod Summing
 pub mod Placing
+pub mod ScopeLaws

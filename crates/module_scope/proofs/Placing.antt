@@ -1,14 +1,14 @@
 -- The places of mentions, by the indices of their names.
-use Rattle.std.proofs.Common.{◌≡◌, ℕ, zero, suc, ◌+◌, ◌<◌, Bool, true, false, cond, not, ◌||◌, ◌&&◌, List, [], ◌∷◌, ◌++◌, length, map, get_or, take, drop, eqb, Option, None, Some, refl, sym, ap, subst, ◌∙◌, arith, inl, inr, drop-cons, add-one}
+use Rattle.std.proofs.Common.{◌≡◌, ℕ, zero, suc, ◌+◌, ◌<◌, ◌≤◌, Bool, true, false, cond, not, ◌||◌, List, [], ◌∷◌, ◌++◌, length, map, get_or, take, drop, eqb, Option, None, Some, refl, sym, ap, ◌∙◌, arith, inl, inr, drop-cons, add-one}
 use Rattle.std.specs.List.{All, filter}
 use Rattle.std.specs.Option.{is_some}
-use Rattle.std.proofs.lemmas.Bool.{cases_eq, cases_Bool, and_parts, or_parts, not-true, both_ways, false_from_ne_true, eq-eqb, ne_eqb}
-use Rattle.std.proofs.lemmas.List.{map-append, ext_get_or, get_or-map, length-map, take_more}
+use Rattle.std.proofs.lemmas.Bool.{cases_eq, and_parts, not-true, both_ways, false_from_ne_true, eq-eqb, ne_eqb}
+use Rattle.std.proofs.lemmas.List.{map-append, ext_get_or, get_or-map, length-map, take_more, drop_all}
 use Rattle.std.proofs.lemmas.List.Elements.{All-head, All-tail, All-nil, All-push}
 use Rattle.v_tree.specs.declared.locations.Location.{Location}
 use Rattle.v_tree.specs.declared.directives.ImplicitNetType.{ImplicitNetType}
 use Rattle.rule_places.specs.Places.{earliest, first_place}
-use Rattle.rule_places.proofs.PlaceLaws.{first_place-append, earliest_assoc}
+use Rattle.rule_places.proofs.PlaceLaws.{first_place-append, earliest_assoc, earliest_none}
 use Rattle.name_table.specs.Names.{same_name, is_among, is_distinct}
 use Rattle.module_scope.specs.declared.roles.Role.{Role}
 use Rattle.module_scope.specs.declared.roles.Role.TheVariants as role
@@ -18,14 +18,14 @@ use Rattle.module_scope.specs.declared.rules.NameRule.{NameRule}
 use Rattle.module_scope.specs.declared.rules.NameRule.TheVariants as rule
 use Rattle.module_scope.specs.declared.nets.ScopeNet.{ScopeNet}
 use Rattle.module_scope.specs.declared.scopes.Scope.{Scope}
-use Rattle.module_scope.specs.declared.scopes.ScopePlaces.{ScopePlaces}
-use Rattle.module_scope.specs.Mentions.{Mention, roles_of, first_names}
+use Rattle.module_scope.specs.declared.places.ScopePlaces.{ScopePlaces}
+use Rattle.module_scope.specs.Mentions.{Mention, roles_of}
 use Rattle.module_scope.specs.Rules.{breaks}
 use Rattle.module_scope.specs.Nets.{net_of, nets_of}
 use Rattle.module_scope.specs.Places.{place_if, places_behind, rule_place, scope_places}
 use Rattle.module_scope.specs.Scopes.{scope_with}
 use Rattle.module_scope.specs.Occurrences.{mention_at, mentions_at, AreOccurrences, roles_at, occurrence_places, occurrence_place, occurrences_places}
-use Rattle.module_scope.specs.Summaries.{summary_of, summaries_of, summary_at, summary_breaks, summary_net}
+use Rattle.module_scope.specs.Summaries.{summary_of, summaries_of, summary_breaks, summary_net, first_more, places_more}
 use Rattle.module_scope.proofs.Naming.{same_name-true, eq-same_name}
 use Rattle.module_scope.proofs.Summing.{length-summaries_of, get_or-summaries_of}
 
@@ -56,20 +56,7 @@ breaks_summary rule.Implicit makes all before (role.Net net) = refl
 breaks_summary rule.Implicit makes all before role.Instance = refl
 breaks_summary rule.Implicit makes all before (role.Use at select) = refl
 
--- the same by the summaries of all names
-pub breaks_at : (law : NameRule) (makes : Bool) (count : ℕ) (all before : List Occurrence) (o : Occurrence) → o.name < count →
-    summary_breaks law makes (summary_at (summaries_of count all) o.name) (summary_at (summaries_of count before) o.name) o.role
-    ≡ breaks law makes (roles_at o.name all) (roles_at o.name before) o.role
-breaks_at law makes count all before o lt =
-    ap (λ (s : Summary). summary_breaks law makes s (summary_at (summaries_of count before) o.name) o.role) (get_or-summaries_of count all o.name (summary_of []) lt)
-    ∙ ap (λ (s : Summary). summary_breaks law makes (summary_of (roles_at o.name all)) s o.role) (get_or-summaries_of count before o.name (summary_of []) lt)
-    ∙ breaks_summary law makes (roles_at o.name all) (roles_at o.name before) o.role
-
 -- ---- the walk over occurrences
-
--- the first place so far, when one more occurrence has come
-abbrev pub first_more : Bool → Option Location → Location → Option Location
-first_more broken first location = cond broken (earliest first (Some location)) first
 
 first_with : (broken : Bool) (first rest : Option Location) (location : Location) → earliest first (earliest (first_place (place_if broken location)) rest) ≡ earliest (first_more broken first location) rest
 first_with true first rest location = sym (earliest_assoc first (Some location) rest)
@@ -90,6 +77,47 @@ place_more law makes all i d first lt so_far =
     ∙ ap (λ (p : Option Location). earliest first p) (first_place-append (place_if broken o.location) rest)
     ∙ first_with broken first (first_place rest) o.location
     ∙ ap (λ (os : List Occurrence). earliest (first_more broken first o.location) (first_place (occurrence_places law makes all os (drop (i + 1) all)))) (sym (take_more all i d lt))
+
+-- the first place at the end of the walk
+pub place_done : (law : NameRule) (makes : Bool) (all : List Occurrence) (i : ℕ) (first : Option Location) → length all ≤ i →
+    occurrence_place law makes all ≡ earliest first (first_place (occurrence_places law makes all (take i all) (drop i all))) → occurrence_place law makes all ≡ first
+place_done law makes all i first le so_far =
+    so_far
+    ∙ ap (λ (os : List Occurrence). earliest first (first_place (occurrence_places law makes all (take i all) os))) (drop_all i all le)
+    ∙ earliest_none first
+
+-- the first place of a rule
+abbrev pub place_of : NameRule → ScopePlaces → Option Location
+place_of rule.Ports places = places.ports
+place_of rule.Repeated places = places.repeated
+place_of rule.Undeclared places = places.undeclared
+place_of rule.Selects places = places.selects
+place_of rule.Ranges places = places.ranges
+place_of rule.Implicit places = places.implicit
+
+pub place_of-more : (law : NameRule) (makes : Bool) (all before : Summary) (o : Occurrence) (places : ScopePlaces) → place_of law (places_more makes all before o places) ≡ first_more (summary_breaks law makes all before o.role) (place_of law places) o.location
+place_of-more rule.Ports makes all before o places = refl
+place_of-more rule.Repeated makes all before o places = refl
+place_of-more rule.Undeclared makes all before o places = refl
+place_of-more rule.Selects makes all before o places = refl
+place_of-more rule.Ranges makes all before o places = refl
+place_of-more rule.Implicit makes all before o places = refl
+
+-- the first places when one more occurrence has come, by what its name's summaries say
+pub places_seen : (makes : Bool) (count : ℕ) (all before : List Occurrence) (o : Occurrence) (summaries : List Summary) (d seen : Summary) (places next : ScopePlaces) → o.name < count →
+    summaries ≡ summaries_of count all → seen ≡ summary_of (roles_at o.name before) → next ≡ places_more makes (get_or summaries o.name d) seen o places →
+    (law : NameRule) → place_of law next ≡ first_more (breaks law makes (roles_at o.name all) (roles_at o.name before) o.role) (place_of law places) o.location
+places_seen makes count all before o summaries d seen places next lt are is becomes law =
+    ap (place_of law) becomes
+    ∙ place_of-more law makes (get_or summaries o.name d) seen o places
+    ∙ ap (λ (s : Summary). first_more (summary_breaks law makes s seen o.role) (place_of law places) o.location)
+    (ap (λ (ss : List Summary). get_or ss o.name d) are ∙ get_or-summaries_of count all o.name d lt)
+    ∙ ap (λ (s : Summary). first_more (summary_breaks law makes (summary_of (roles_at o.name all)) s o.role) (place_of law places) o.location) is
+    ∙ ap (λ (b : Bool). first_more b (place_of law places) o.location) (breaks_summary law makes (roles_at o.name all) (roles_at o.name before) o.role)
+
+-- places are those of the occurrences, where that of each rule is
+pub places_all : (makes : Bool) (all : List Occurrence) (places : ScopePlaces) → ((law : NameRule) → occurrence_place law makes all ≡ place_of law places) → places ≡ occurrences_places makes all
+places_all makes all places each = sym (rw (each rule.Ports, each rule.Repeated, each rule.Undeclared, each rule.Selects, each rule.Ranges, each rule.Implicit) refl)
 
 -- ---- names and indices
 
@@ -157,7 +185,7 @@ module _ (names : List (List ℕ)) (distinct : is_distinct names ≡ true) where
   pub place_same : (law : NameRule) (default : Option ImplicitNetType) (all : List Occurrence) → All (λ o. o.name < length names) all → occurrence_place law (is_some default) all ≡ rule_place law default (mentions_at names all)
   place_same law default all within = ap first_place (places_same law (is_some default) all within [] all (All-nil (λ (o : Occurrence). o.name < length names)) within)
 
-  pub scope_places_same : (default : Option ImplicitNetType) (all : List Occurrence) → All (λ o. o.name < length names) all → occurrences_places default all ≡ scope_places default (mentions_at names all)
+  pub scope_places_same : (default : Option ImplicitNetType) (all : List Occurrence) → All (λ o. o.name < length names) all → occurrences_places (is_some default) all ≡ scope_places default (mentions_at names all)
   scope_places_same default all within =
       rw (
         place_same rule.Ports default all within,
@@ -197,7 +225,7 @@ with_parts names nets places = record { names = names; nets = nets; places = pla
 
 pub scope_same : (default : Option ImplicitNetType) (names : List (List ℕ)) (occurrences : List Occurrence) (mentions : List Mention) (nets : List (Option ScopeNet)) (places : ScopePlaces) →
     is_distinct names ≡ true → AreOccurrences names occurrences → mentions_at names occurrences ≡ mentions →
-    nets ≡ map (summary_net default) (summaries_of (length names) occurrences) → places ≡ occurrences_places default occurrences →
+    nets ≡ map (summary_net default) (summaries_of (length names) occurrences) → places ≡ occurrences_places (is_some default) occurrences →
     with_parts names nets places ≡ scope_with default mentions
 scope_same default names occurrences mentions nets places distinct are same nets-are places-are =
     let told = mentions_at names occurrences in

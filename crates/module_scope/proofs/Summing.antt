@@ -1,12 +1,11 @@
 -- Summaries of the roles of names.
-use Rattle.std.proofs.Common.{◌≡◌, ℕ, suc, ◌+◌, ◌<◌, ◌≤◌, Bool, true, false, cond, ◌||◌, List, [], ◌∷◌, ◌++◌, length, map, get_or, set, take, eqb, refl, sym, ap, subst, ◌∙◌, arith, inl, inr, length-set, get_or-set_same, get_or-set_other}
-use Rattle.std.specs.List.{find, filter, list_any, range_with_len}
-use Rattle.std.specs.Option.{option_or}
+use Rattle.std.proofs.Common.{◌≡◌, ℕ, ◌+◌, ◌<◌, Bool, true, false, cond, ◌||◌, List, [], ◌∷◌, ◌++◌, length, map, get_or, set, take, eqb, refl, sym, ap, ◌∙◌, arith, inl, inr, length-set, get_or-set_other}
+use Rattle.std.specs.List.{find, filter, list_any}
 use Rattle.std.proofs.lemmas.Bool.{cases_eq, eq-eqb, ne_eqb}
 use Rattle.std.proofs.lemmas.List.{map-append, append-nil, ext_get_or, take_more}
 use Rattle.std.proofs.lemmas.Grind.{get_or-set_at}
 use Rattle.std.proofs.lemmas.List.Elements.{filter-append}
-use Rattle.std.proofs.lemmas.List.Folds.{find-append, list_any-append}
+use Rattle.std.proofs.lemmas.List.Folds.{find-append}
 use Rattle.std.proofs.lemmas.List.FromFn.{length-map-range_with_len, get_or-map-range_with_len}
 use Rattle.module_scope.specs.declared.roles.Role.{Role}
 use Rattle.module_scope.specs.declared.roles.Count.{Count}
@@ -14,7 +13,7 @@ use Rattle.module_scope.specs.declared.mentions.Occurrence.{Occurrence}
 use Rattle.module_scope.specs.declared.summaries.Summary.{Summary}
 use Rattle.module_scope.specs.Roles.{is_header, is_port, is_net, declares_net, is_declaration, makes_net, more, how_many}
 use Rattle.module_scope.specs.Occurrences.{roles_at}
-use Rattle.module_scope.specs.Summaries.{summary_of, count_next, first_next, with_role, summaries_of, summary_at}
+use Rattle.module_scope.specs.Summaries.{summary_of, count_next, first_next, with_role, summaries_of}
 
 -- ---- one more role
 
@@ -123,3 +122,9 @@ summaries_of-more count i occurrences d e summaries read next lt within are is b
     ∙ ap (λ (ss : List Summary). set ss o.name (with_role (get_or ss o.name e) o.role)) are
     ∙ summaries_of-push count before o e within
     ∙ ap (summaries_of count) (sym (take_more occurrences i d lt))
+
+-- what is read of the summaries at a name
+pub summary_read : (count : ℕ) (occurrences : List Occurrence) (summaries : List Summary) (index : ℕ) (d read : Summary) →
+    index < count → summaries ≡ summaries_of count occurrences → read ≡ get_or summaries index d → read ≡ summary_of (roles_at index occurrences)
+summary_read count occurrences summaries index d read lt are is =
+    is ∙ ap (λ (ss : List Summary). get_or ss index d) are ∙ get_or-summaries_of count occurrences index d lt

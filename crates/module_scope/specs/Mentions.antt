@@ -1,5 +1,5 @@
 -- The names that a module writes, each with its location and with what is said of it there, in the order of the text.
-use Rattle.std.specs.Prelude.{ℕ, ◌+◌, Bool, not, List, [], ◌∷◌, ◌++◌, map, Option, Some, None, if◌then◌else◌}
+use Rattle.std.specs.Prelude.{ℕ, ◌+◌, List, [], ◌∷◌, ◌++◌, map, Option, Some, None, if◌then◌else◌}
 use Rattle.std.specs.List.{filter, flat_map}
 use Rattle.std.specs.Option.{option_map}
 use Rattle.name_table.specs.Names.{same_name, is_among}
@@ -15,6 +15,7 @@ use Rattle.v_tree.specs.declared.expressions.Target.TheOpen.{Target-F}
 use Rattle.v_tree.specs.declared.expressions.Target.TheFolds.{fold-Target}
 use Rattle.v_tree.specs.declared.drives.Charge.{Charge}
 use Rattle.v_tree.specs.declared.drives.Charge.TheVariants as charge
+use Rattle.v_tree.specs.declared.drives.DelaySpec.{DelaySpec}
 use Rattle.v_tree.specs.declared.declarations.VectorRange.{VectorRange}
 use Rattle.v_tree.specs.declared.declarations.PortDecl.{PortDecl}
 use Rattle.v_tree.specs.declared.declarations.ValuedName.{ValuedName}
@@ -128,9 +129,18 @@ port_role d = record { direction = d.direction; net_type = d.net_type; range = d
 abbrev pub vector_bounds : Option VectorRange → Option RangeBounds
 vector_bounds r = option_map (λ vector. vector.range) r
 
+-- the index of the item, where it has a delay
+abbrev pub delay_at : ℕ → Option DelaySpec → Option ℕ
+delay_at index delay = option_map (λ spec. index) delay
+
+-- a delay before names that are assigned is that of the assignments, and not of the nets (IEEE 1364-2005, 6.1.3)
+abbrev pub net_delay : ℕ → DeclaredNames → Option DelaySpec → Option ℕ
+net_delay index (declares.Names names) delay = delay_at index delay
+net_delay index (declares.Valued names) delay = None
+
 -- what a declaration says of its nets, where it is the item with this index
 abbrev pub net_role : ℕ → NetDecl → NetRole
-net_role index d = record { kind = kind.Typed d.net_type; range = vector_bounds d.vector_range; item = index }
+net_role index d = record { kind = kind.Typed d.net_type; range = vector_bounds d.vector_range; delay = net_delay index d.declared_names d.delay }
 
 -- the charge of a trireg, which is medium where none is written (IEEE 1364-2005, 4.4.1)
 abbrev pub charge_of : Option Charge → Charge
@@ -138,7 +148,7 @@ charge_of None = charge.Medium
 charge_of (Some c) = c
 
 abbrev pub trireg_role : ℕ → TriregDecl → NetRole
-trireg_role index d = record { kind = kind.Trireg (charge_of d.charge); range = vector_bounds d.vector_range; item = index }
+trireg_role index d = record { kind = kind.Trireg (charge_of d.charge); range = vector_bounds d.vector_range; delay = delay_at index d.delay }
 
 -- a name that is declared and assigned
 abbrev pub valued_mentions : NetRole → ValuedName → List Mention

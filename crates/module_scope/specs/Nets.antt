@@ -1,7 +1,7 @@
 -- The one net that a name has in a module.
-use Rattle.std.specs.Prelude.{ℕ, Bool, ◌&&◌, List, [], ◌∷◌, map, Option, Some, None, if◌then◌else◌}
+use Rattle.std.specs.Prelude.{ℕ, ◌&&◌, List, map, Option, Some, None, if◌then◌else◌}
 use Rattle.std.specs.List.{find, list_any}
-use Rattle.std.specs.Option.{is_some, is_none, option_map}
+use Rattle.std.specs.Option.{is_some}
 use Rattle.v_tree.specs.declared.declarations.Direction.{Direction}
 use Rattle.v_tree.specs.declared.declarations.NetType.{NetType}
 use Rattle.v_tree.specs.declared.declarations.NetType.TheVariants as net_type
@@ -15,7 +15,7 @@ use Rattle.module_scope.specs.declared.roles.Role.TheVariants as role
 use Rattle.module_scope.specs.declared.nets.ScopeNet.{ScopeNet}
 use Rattle.module_scope.specs.Roles.{is_port, is_net, declares_net, makes_net}
 use Rattle.module_scope.specs.Rules.{first_range}
-use Rattle.module_scope.specs.Mentions.{Mention, roles_of, first_names}
+use Rattle.module_scope.specs.Mentions.{Mention, roles_of}
 
 -- the kind of implicit nets and of ports without a net type: an implicit trireg has a medium charge, and under `none` such a port is a wire (IEEE 1364-2005, 19.2)
 abbrev pub default_kind : Option ImplicitNetType → NetKind
@@ -50,18 +50,18 @@ abbrev pub direction_of : Option Role → Option Direction
 direction_of (Some (role.Port port)) = Some port.direction
 direction_of other = None
 
--- the index of the item that declares the net
-abbrev pub item_of : Option Role → Option ℕ
-item_of (Some (role.Net net)) = Some net.item
-item_of other = None
+-- the index of the item that has the delay of the net, where there is one
+abbrev pub delay_of : Option Role → Option ℕ
+delay_of (Some (role.Net net)) = net.delay
+delay_of other = None
 
 -- a net by its first declaration, its first direction, and the first declaration of it as a net
 abbrev pub declared_net : Option ImplicitNetType → Option Role → Option Role → Option Role → ScopeNet
-declared_net default first port net = record { direction = direction_of port; kind = declared_kind default port net; range = first_range first; item = item_of net }
+declared_net default first port net = record { direction = direction_of port; kind = declared_kind default port net; range = first_range first; delay = delay_of net }
 
 -- a net that no declaration of the module declares
 abbrev pub implicit_net : Option ImplicitNetType → ScopeNet
-implicit_net default = record { direction = None; kind = default_kind default; range = None; item = None }
+implicit_net default = record { direction = None; kind = default_kind default; range = None; delay = None }
 
 -- the net of a name, by what the module says of the name: the one that is declared, else an implicit one where a use makes it
 abbrev pub net_of : Option ImplicitNetType → List Role → Option ScopeNet

@@ -1,16 +1,14 @@
 -- What bodies alone need: mentions by the index of their name.
 use Rattle.std.specs.Prelude.{◌≡◌, ℕ, ◌<◌, nat_eq, Bool, List, [], ◌∷◌, ◌++◌, length, map, slice_index_or, Option}
 use Rattle.std.specs.List.{All, filter}
-use Rattle.std.specs.Option.{is_some}
 use Rattle.v_tree.specs.declared.locations.Location.{Location}
 use Rattle.v_tree.specs.declared.locations.Name.{Name}
-use Rattle.v_tree.specs.declared.directives.ImplicitNetType.{ImplicitNetType}
 use Rattle.rule_places.specs.Places.{first_place}
 use Rattle.module_scope.specs.declared.roles.Role.{Role}
 use Rattle.module_scope.specs.declared.mentions.Occurrence.{Occurrence}
 use Rattle.module_scope.specs.declared.rules.NameRule.{NameRule}
 use Rattle.module_scope.specs.declared.rules.NameRule.TheVariants as rule
-use Rattle.module_scope.specs.declared.scopes.ScopePlaces.{ScopePlaces}
+use Rattle.module_scope.specs.declared.places.ScopePlaces.{ScopePlaces}
 use Rattle.module_scope.specs.Rules.{breaks}
 use Rattle.module_scope.specs.Places.{place_if}
 use Rattle.module_scope.specs.Mentions.{Mention, first_names}
@@ -47,12 +45,12 @@ abbrev pub occurrence_place : NameRule → Bool → List Occurrence → Option L
 occurrence_place law makes occurrences = first_place (occurrence_places law makes occurrences [] occurrences)
 
 -- the first place of each rule among occurrences
-abbrev pub occurrences_places : Option ImplicitNetType → List Occurrence → ScopePlaces
-occurrences_places default occurrences = record {
-  ports = occurrence_place rule.Ports (is_some default) occurrences;
-  repeated = occurrence_place rule.Repeated (is_some default) occurrences;
-  undeclared = occurrence_place rule.Undeclared (is_some default) occurrences;
-  selects = occurrence_place rule.Selects (is_some default) occurrences;
-  ranges = occurrence_place rule.Ranges (is_some default) occurrences;
-  implicit = occurrence_place rule.Implicit (is_some default) occurrences;
+abbrev pub occurrences_places : Bool → List Occurrence → ScopePlaces
+occurrences_places makes occurrences = record {
+  ports = occurrence_place rule.Ports makes occurrences;
+  repeated = occurrence_place rule.Repeated makes occurrences;
+  undeclared = occurrence_place rule.Undeclared makes occurrences;
+  selects = occurrence_place rule.Selects makes occurrences;
+  ranges = occurrence_place rule.Ranges makes occurrences;
+  implicit = occurrence_place rule.Implicit makes occurrences;
 }

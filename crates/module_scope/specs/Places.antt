@@ -1,13 +1,12 @@
 -- The places of a module at which a rule on its names is broken.
-use Rattle.std.specs.Prelude.{ℕ, Bool, List, [], ◌∷◌, ◌++◌, Option, if◌then◌else◌}
+use Rattle.std.specs.Prelude.{Bool, List, [], ◌∷◌, ◌++◌, Option, if◌then◌else◌}
 use Rattle.std.specs.Option.{is_some}
 use Rattle.v_tree.specs.declared.locations.Location.{Location}
 use Rattle.v_tree.specs.declared.directives.ImplicitNetType.{ImplicitNetType}
 use Rattle.rule_places.specs.Places.{first_place}
-use Rattle.module_scope.specs.declared.roles.Role.{Role}
 use Rattle.module_scope.specs.declared.rules.NameRule.{NameRule}
 use Rattle.module_scope.specs.declared.rules.NameRule.TheVariants as rule
-use Rattle.module_scope.specs.declared.scopes.ScopePlaces.{ScopePlaces}
+use Rattle.module_scope.specs.declared.places.ScopePlaces.{ScopePlaces}
 use Rattle.module_scope.specs.Mentions.{Mention, roles_of}
 use Rattle.module_scope.specs.Rules.{breaks}
 

@@ -1,5 +1,5 @@
 -- What the mentions of a name say of it, told apart.
-use Rattle.std.specs.Prelude.{ℕ, Bool, true, false, ◌||◌, List, [], ◌∷◌, Option, Some, None, if◌then◌else◌}
+use Rattle.std.specs.Prelude.{Bool, true, false, ◌||◌, List, [], ◌∷◌, Option, None, if◌then◌else◌}
 use Rattle.v_tree.specs.declared.expressions.RangeBounds.{RangeBounds}
 use Rattle.module_scope.specs.declared.roles.Side.{Side}
 use Rattle.module_scope.specs.declared.roles.Side.TheVariants as side

@@ -4,14 +4,13 @@ use Rattle.std.specs.List.{find, list_any}
 use Rattle.std.specs.Option.{is_some, is_none, unwrap_or}
 use Rattle.v_tree.specs.declared.expressions.RangeBounds.{RangeBounds}
 use Rattle.v_tree.specs.declared.expressions.Select.{Select}
-use Rattle.module_scope.specs.declared.roles.Side.{Side}
 use Rattle.module_scope.specs.declared.roles.Role.{Role}
 use Rattle.module_scope.specs.declared.roles.Role.TheVariants as role
 use Rattle.module_scope.specs.declared.roles.Count.{Count}
 use Rattle.module_scope.specs.declared.roles.Count.TheVariants.{Zero, One, Several}
 use Rattle.module_scope.specs.declared.rules.NameRule.{NameRule}
 use Rattle.module_scope.specs.declared.rules.NameRule.TheVariants as rule
-use Rattle.module_scope.specs.Roles.{is_header, is_port, is_net, declares_net, is_declaration, is_value, takes_implicit, makes_net, range_of, how_many, is_zero, is_one, is_several}
+use Rattle.module_scope.specs.Roles.{is_header, is_port, declares_net, is_declaration, is_value, takes_implicit, makes_net, range_of, how_many, is_zero, is_one, is_several}
 
 -- ---- ports
 

@@ -1,17 +1,19 @@
 -- What bodies alone need: what the rules ask of the roles of a name, kept in a summary of them.
-use Rattle.std.specs.Prelude.{◌≡◌, ℕ, ◌<◌, nat_eq, Bool, true, false, not, ◌&&◌, ◌||◌, List, [], ◌∷◌, ◌++◌, length, map, slice_index_or, Option, Some, None, if◌then◌else◌}
+use Rattle.std.specs.Prelude.{ℕ, Bool, false, not, ◌&&◌, ◌||◌, List, map, Option, Some, None, if◌then◌else◌}
 use Rattle.std.specs.List.{find, list_any, range_with_len}
 use Rattle.std.specs.Option.{is_some, is_none, option_or}
 use Rattle.v_tree.specs.declared.directives.ImplicitNetType.{ImplicitNetType}
+use Rattle.v_tree.specs.declared.locations.Location.{Location}
+use Rattle.rule_places.specs.Places.{earliest}
 use Rattle.module_scope.specs.declared.roles.Role.{Role}
 use Rattle.module_scope.specs.declared.roles.Role.TheVariants as role
 use Rattle.module_scope.specs.declared.roles.Count.{Count}
-use Rattle.module_scope.specs.declared.roles.Count.TheVariants.{Zero}
 use Rattle.module_scope.specs.declared.rules.NameRule.{NameRule}
 use Rattle.module_scope.specs.declared.rules.NameRule.TheVariants as rule
 use Rattle.module_scope.specs.declared.mentions.Occurrence.{Occurrence}
 use Rattle.module_scope.specs.declared.summaries.Summary.{Summary}
 use Rattle.module_scope.specs.declared.nets.ScopeNet.{ScopeNet}
+use Rattle.module_scope.specs.declared.places.ScopePlaces.{ScopePlaces}
 use Rattle.module_scope.specs.Roles.{is_header, is_port, is_net, declares_net, is_declaration, is_value, takes_implicit, makes_net, how_many, more, is_zero, is_one, is_several}
 use Rattle.module_scope.specs.Rules.{repeats, is_within, first_range, differs_from}
 use Rattle.module_scope.specs.Nets.{declared_net, implicit_net}
@@ -106,6 +108,19 @@ summary_net default s =
 abbrev pub summaries_of : ℕ → List Occurrence → List Summary
 summaries_of count occurrences = map (λ index. summary_of (roles_at index occurrences)) (range_with_len 0 count)
 
--- the summary of a name
-abbrev pub summary_at : List Summary → ℕ → Summary
-summary_at summaries index = slice_index_or summaries index (summary_of [])
+-- ---- the first places of the rules
+
+-- the first place, when one more has come, where a rule is broken there
+abbrev pub first_more : Bool → Option Location → Location → Option Location
+first_more broken first location = if broken then earliest first (Some location) else first
+
+-- the first place of each rule, when one more occurrence has come
+abbrev pub places_more : Bool → Summary → Summary → Occurrence → ScopePlaces → ScopePlaces
+places_more makes all before o places = record {
+  ports = first_more (summary_breaks rule.Ports makes all before o.role) places.ports o.location;
+  repeated = first_more (summary_breaks rule.Repeated makes all before o.role) places.repeated o.location;
+  undeclared = first_more (summary_breaks rule.Undeclared makes all before o.role) places.undeclared o.location;
+  selects = first_more (summary_breaks rule.Selects makes all before o.role) places.selects o.location;
+  ranges = first_more (summary_breaks rule.Ranges makes all before o.role) places.ranges o.location;
+  implicit = first_more (summary_breaks rule.Implicit makes all before o.role) places.implicit o.location;
+}

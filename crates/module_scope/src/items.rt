@@ -1,7 +1,7 @@
 //! The names of a module's items.
 ghost use Rattle.std.specs.Prelude.{◌≡◌, ◌++◌, OnOk, IfOk};
 ghost use Rattle.std.specs.List.{flat_map};
-ghost use Rattle.module_scope.specs.Mentions.{port_role, vector_bounds, net_role, charge_of, trireg_role, valued_mentions, declared_mentions, pair_mentions, terms_mentions, connection_mentions, connections_mentions, optional_mentions, inst_mentions, item_mentions, items_mentions, mentions_in};
+ghost use Rattle.module_scope.specs.Mentions.{port_role, vector_bounds, delay_at, net_delay, net_role, charge_of, trireg_role, valued_mentions, declared_mentions, pair_mentions, terms_mentions, connection_mentions, connections_mentions, optional_mentions, inst_mentions, item_mentions, items_mentions, mentions_in};
 ghost use Rattle.module_scope.specs.declared.roles.Side.TheVariants.{Connection as connection_side};
 
 use crate::expressions::{push_expr, push_exprs, push_optional, push_target};
@@ -10,8 +10,8 @@ use crate::mentions::MentionList;
 use crate::roles::{NetKind, NetRole, PortRole, Role, Side};
 use std::alloc::{AllocError, Global};
 use v_tree::{
-    Charge, Connection, Connections, DeclaredNames, Expr, Inst, Item, Module, NetDecl, Pair,
-    PortDecl, RangeBounds, Terms, TriregDecl, ValuedName, VectorRange,
+    Charge, Connection, Connections, DeclaredNames, DelaySpec, Expr, Inst, Item, Module, NetDecl,
+    Pair, PortDecl, RangeBounds, Terms, TriregDecl, ValuedName, VectorRange,
 };
 
 /// What a declaration says of its ports.
@@ -35,6 +35,24 @@ fn vector_bounds(range: Option<VectorRange>) -> Option<RangeBounds>
     }
 }
 
+/// The index of the item, where it has a delay.
+fn delay_at(index: usize, delay: &Option<DelaySpec>) -> Option<usize>
+    ensures { result ≡ delay_at index delay.now }
+{
+    if delay.is_some() { Some(index) } else { None }
+}
+
+/// The index of the item, where it has a delay that is that of its nets: before names that are
+/// assigned it is that of the assignments (IEEE 1364-2005, 6.1.3).
+fn net_delay(index: usize, names: &DeclaredNames, delay: &Option<DelaySpec>) -> Option<usize>
+    ensures { result ≡ net_delay index names.now delay.now }
+{
+    match names {
+        DeclaredNames::Names(_) => delay_at(index, delay),
+        DeclaredNames::Valued(_) => None,
+    }
+}
+
 /// What a declaration, which is the item with this index, says of its nets.
 fn net_role(index: usize, decl: &NetDecl) -> NetRole
     ensures { result ≡ net_role index decl.now }
@@ -42,7 +60,7 @@ fn net_role(index: usize, decl: &NetDecl) -> NetRole
     NetRole {
         kind: NetKind::Typed(decl.net_type),
         range: vector_bounds(decl.vector_range),
-        item: index,
+        delay: net_delay(index, &decl.declared_names, &decl.delay),
     }
 }
 
@@ -63,7 +81,7 @@ fn trireg_role(index: usize, decl: &TriregDecl) -> NetRole
     NetRole {
         kind: NetKind::Trireg(charge_of(decl.charge)),
         range: vector_bounds(decl.vector_range),
-        item: index,
+        delay: delay_at(index, &decl.delay),
     }
 }
 

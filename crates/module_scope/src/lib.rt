@@ -14,5 +14,9 @@ mod scopes;
 mod summaries;
 
 pub use nets::ScopeNet;
+pub use places::ScopePlaces;
 pub use roles::{NetKind, NetRole, PortRole, Role, Side};
-pub use scopes::{Scope, ScopePlaces};
+pub use scopes::Scope;
+
+#[cfg(test)]
+mod tests;

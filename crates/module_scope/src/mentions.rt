@@ -45,7 +45,8 @@ fn push_again(
     name: &Name,
     role: Role,
 ) -> Result<(), AllocError>
-    ensures ok { OnOk result (occurrences.new.items ≡ occurrences.old.items ++ occurrence index name.now role ∷ []) }
+    ensures ok { OnOk result (occurrences.new.items
+        ≡ occurrences.old.items ++ occurrence index name.now role ∷ []) }
     ensures err { OnErr result (occurrences.new.items ≡ occurrences.old.items) }
 {
     occurrences.push(Occurrence {

@@ -1,6 +1,6 @@
 //! The one net that a name has in a module.
 ghost use Rattle.std.specs.Prelude.{◌≡◌, map, IfOk};
-ghost use Rattle.module_scope.specs.Nets.{default_kind, typed_kind, port_kind, declared_kind, direction_of, item_of, declared_net, implicit_net};
+ghost use Rattle.module_scope.specs.Nets.{default_kind, typed_kind, port_kind, declared_kind, direction_of, delay_of, declared_net, implicit_net};
 ghost use Rattle.module_scope.specs.Summaries.{summary_net};
 
 use crate::roles::{NetKind, Role};
@@ -10,13 +10,13 @@ use std::alloc::{AllocError, Global};
 use v_tree::{Charge, Direction, ImplicitNetType, NetType, RangeBounds};
 
 /// A net of a module: its direction where it is a port, its kind, its range where it is a vector, and
-/// the index of the module's item that declares it as a net, which has its delay.
+/// the index of the module's item that has its delay, where it has one.
 #[derive(Clone, Copy, Debug, PartialEq, Eq)]
 pub struct ScopeNet {
     pub direction: Option<Direction>,
     pub kind: NetKind,
     pub range: Option<RangeBounds>,
-    pub item: Option<usize>,
+    pub delay: Option<usize>,
 }
 
 /// The kind of implicit nets, and of ports without a net type. An implicit trireg has a medium charge,
@@ -77,12 +77,12 @@ fn direction_of(port: Option<Role>) -> Option<Direction>
     }
 }
 
-/// The index of the item that declares the net.
-fn item_of(net: Option<Role>) -> Option<usize>
-    ensures { result ≡ item_of net }
+/// The index of the item that has the delay of the net, where there is one.
+fn delay_of(net: Option<Role>) -> Option<usize>
+    ensures { result ≡ delay_of net }
 {
     match net {
-        Some(Role::Net(net)) => Some(net.item),
+        Some(Role::Net(net)) => net.delay,
         _ => None,
     }
 }
@@ -95,7 +95,7 @@ fn declared_net(default: Option<ImplicitNetType>, summary: &Summary) -> ScopeNet
         direction: direction_of(summary.first_port),
         kind: declared_kind(default, summary.first_port, summary.first_net),
         range: first_range(summary.first_declared),
-        item: item_of(summary.first_net),
+        delay: delay_of(summary.first_net),
     }
 }
 
@@ -107,7 +107,7 @@ fn implicit_net(default: Option<ImplicitNetType>) -> ScopeNet
         direction: None,
         kind: default_kind(default),
         range: None,
-        item: None,
+        delay: None,
     }
 }
 

@@ -19,13 +19,13 @@ pub struct PortRole {
     pub range: Option<RangeBounds>,
 }
 
-/// A declaration of a net. `item` is the index of the module's item, which has the delay where there
-/// is one.
+/// A declaration of a net. `delay` is the index of the module's item that has the delay of the net,
+/// where it has one: a delay before names that are assigned is that of the assignments.
 #[derive(Clone, Copy, Debug, PartialEq, Eq)]
 pub struct NetRole {
     pub kind: NetKind,
     pub range: Option<RangeBounds>,
-    pub item: usize,
+    pub delay: Option<usize>,
 }
 
 /// Where a use of a name stands: in a terminal of a gate, in a connection of an instance, in the

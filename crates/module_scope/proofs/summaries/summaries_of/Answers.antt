@@ -1,10 +1,8 @@
-use Rattle.std.proofs.Common.{◌≡◌, ◌<◌, ap, arith, length, get_or}
+use Rattle.std.proofs.Common.{ap, arith, length}
 use Rattle.module_scope.proofs.Summing.{length-summaries_of, summaries_of-more}
 use Rattle.std.proofs.Common.{take}
-use Rattle.module_scope.specs.declared.summaries.Summary.{Summary}
 use Rattle.module_scope.specs.declared.roles.Role.TheVariants.{Header}
 use Rattle.module_scope.specs.declared.mentions.Occurrence.{Occurrence}
-use Rattle.module_scope.specs.Summaries.{summaries_of, summary_of}
 use Rattle.module_scope.proofs.summaries.summaries_of.Goals as goal
 
 abbrev none : Occurrence

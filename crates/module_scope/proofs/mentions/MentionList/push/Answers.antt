@@ -1,4 +1,4 @@
-use Rattle.std.proofs.Common.{◌≡◌, ◌++◌, ◌∷◌, [], true, false, sym, ap, subst, ◌∙◌, Option, Some, None, List, ℕ, length}
+use Rattle.std.proofs.Common.{◌≡◌, ◌++◌, ◌∷◌, [], ap, ◌∙◌, Some, None, List, ℕ, length}
 use Rattle.std.proofs.lemmas.Bool.{not_from_false}
 use Rattle.name_table.specs.Names.{is_among, index_of}
 use Rattle.module_scope.specs.declared.mentions.Occurrence.{Occurrence}
