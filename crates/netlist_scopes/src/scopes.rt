@@ -10,7 +10,7 @@ use crate::places::NetlistPlaces;
 use crate::reached::places_among;
 use crate::rules::BrokenRule;
 use module_directives::{Settings, SettingsList, coarse_precision, settings_of};
-use module_graph::{ModuleGraph, repeated_name};
+use module_graph::{ModuleGraph, ReachedList, repeated_name};
 use module_scope::{Scope, ScopePlaces};
 use sqlite_items::Items;
 use std::alloc::{AllocError, Global};
@@ -27,7 +27,7 @@ pub struct Scopes {
     /// The index of the top among the modules, None where there is no top.
     pub top: Option<usize>,
     /// For each module whether it is the top or reached by it.
-    pub reached: Items<bool>,
+    pub reached: ReachedList,
     /// For each module what directives leave in force.
     pub settings: SettingsList,
     /// For each module its names and nets.
@@ -47,7 +47,7 @@ fn absent_top(top: Option<usize>) -> Option<Location>
 }
 
 /// For none of so many modules.
-fn none_reached(alloc: Global, count: usize) -> Result<Items<bool>, AllocError>
+fn none_reached(alloc: Global, count: usize) -> Result<ReachedList, AllocError>
     ensures { IfOk result (λ reached. reached ≡ replicate count false) }
 {
     Ok(Items::from_vec(vec![in alloc; false; count]?))
@@ -58,12 +58,12 @@ fn reached_from(
     alloc: Global,
     graph: &ModuleGraph,
     top: Option<usize>,
-) -> Result<Items<bool>, AllocError>
+) -> Result<ReachedList, AllocError>
     ensures { IfOk result (λ reached. reached ≡ reached_from graph.now top) }
 {
     match top {
         Some(top) => graph.reached(alloc, top),
-        None => none_reached(alloc, graph.module_count()),
+        None => none_reached(alloc, graph.references().len()),
     }
 }
 
@@ -139,7 +139,7 @@ fn scopes_with(
     file: &File,
     graph: ModuleGraph,
     top: Option<usize>,
-    reached: Items<bool>,
+    reached: ReachedList,
 ) -> Result<Scopes, AllocError>
     requires { length reached ≡ length file.now.modules }
     ensures { IfOk result (λ scopes. scopes
