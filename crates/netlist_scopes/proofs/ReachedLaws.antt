@@ -8,7 +8,7 @@ use Rattle.v_tree.specs.declared.modules.Module.{Module}
 use Rattle.rule_places.specs.Places.{earliest, first_place}
 use Rattle.rule_places.proofs.PlaceLaws.{earliest_none, earliest_assoc, first_place-append}
 use Rattle.module_scope.specs.declared.scopes.Scope.{Scope}
-use Rattle.module_scope.specs.declared.scopes.ScopePlaces.{ScopePlaces}
+use Rattle.module_scope.specs.declared.places.ScopePlaces.{ScopePlaces}
 use Rattle.module_scope.specs.declared.rules.NameRule.TheVariants as rule
 use Rattle.netlist_scopes.specs.Reached.{module_places, name_places, scope_under}
 use Rattle.netlist_scopes.specs.Walks.{earliest_places, no_places, places_among, with_scope}

@@ -10,7 +10,7 @@ use Rattle.module_directives.specs.InForce.{settings_at}
 use Rattle.module_scope.specs.declared.rules.NameRule.{NameRule}
 use Rattle.module_scope.specs.declared.rules.NameRule.TheVariants as rule
 use Rattle.module_scope.specs.declared.scopes.Scope.{Scope}
-use Rattle.module_scope.specs.declared.scopes.ScopePlaces.{ScopePlaces}
+use Rattle.module_scope.specs.declared.places.ScopePlaces.{ScopePlaces}
 use Rattle.module_scope.specs.Mentions.{mentions_in}
 use Rattle.module_scope.specs.Places.{breaking_places}
 use Rattle.module_scope.specs.Scopes.{scope_of}

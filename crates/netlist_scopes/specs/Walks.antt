@@ -2,7 +2,7 @@
 use Rattle.std.specs.Prelude.{Bool, List, [], ◌∷◌, None, if◌then◌else◌}
 use Rattle.rule_places.specs.Places.{earliest}
 use Rattle.module_scope.specs.declared.scopes.Scope.{Scope}
-use Rattle.module_scope.specs.declared.scopes.ScopePlaces.{ScopePlaces}
+use Rattle.module_scope.specs.declared.places.ScopePlaces.{ScopePlaces}
 
 -- no rule is broken
 abbrev pub no_places : ScopePlaces
