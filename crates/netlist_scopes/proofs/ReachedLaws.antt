@@ -1,5 +1,5 @@
 -- The first places over the modules that are reached.
-use Rattle.std.proofs.Common.{◌≡◌, ℕ, ◌+◌, ◌<◌, Bool, true, false, List, [], ◌∷◌, length, get_or, drop, map, Option, None, Some, refl, sym, ap, ◌∙◌, arith}
+use Rattle.std.proofs.Common.{◌≡◌, ℕ, ◌+◌, ◌<◌, Bool, true, false, List, [], ◌∷◌, length, get_or, drop, map, Option, refl, sym, ap, ◌∙◌, arith}
 use Rattle.std.specs.List.{flat_map, items_where_true}
 use Rattle.std.proofs.lemmas.List.{at_drop_more}
 use Rattle.v_tree.specs.declared.locations.Location.{Location}

@@ -1,11 +1,11 @@
 -- The laws of the first broken rule.
-use Rattle.std.proofs.Common.{◌≡◌, ℕ, List, [], ◌∷◌, ◌++◌, map, Option, None, Some, refl, ap}
+use Rattle.std.proofs.Common.{◌≡◌, List, [], ◌∷◌, ◌++◌, map, Option, None, Some, refl, ap}
 use Rattle.std.specs.List.{All}
 use Rattle.std.specs.Option.{option_or}
 use Rattle.v_tree.specs.declared.locations.Location.{Location}
 use Rattle.netlist_scopes.specs.declared.rules.RulePlace.{RulePlace}
 use Rattle.std.proofs.lemmas.List.Elements.{All-nil, All-cons}
-use Rattle.rule_places.specs.Places.{first_place, IsFirst}
+use Rattle.rule_places.specs.Places.{first_place}
 use Rattle.rule_places.proofs.PlaceLaws.{first_place_none, IsFirst-first_place}
 use Rattle.netlist_scopes.specs.declared.rules.BrokenRule.{BrokenRule}
 use Rattle.netlist_scopes.specs.Rules.{RulePlaces, IsFirstBroken, first_broken, first_of}
@@ -40,7 +40,7 @@ IsFirstBroken-next r rules b none rest = record {
   behind = rest.behind;
   place = rest.place;
   split = ap (λ (rs : List RulePlaces). r ∷ rs) rest.split;
-  kept = All-cons (λ r. r.places ≡ []) r rest.before none rest.kept;
+  none_before = All-cons (λ r. r.places ≡ []) r rest.before none rest.none_before;
   first = rest.first;
   rule = rest.rule;
   line = rest.line;
@@ -63,7 +63,7 @@ first_broken_some (r ∷ rules) b e = by (first_place r.places) refl (first_brok
           behind = rules;
           place = place;
           split = refl;
-          kept = All-nil (λ r. r.places ≡ []);
+          none_before = All-nil (λ r. r.places ≡ []);
           first = IsFirst-first_place r.places place some;
           rule = cc;
           line = cc;

@@ -40,7 +40,7 @@ pub record IsFirstBroken (rules : List RulePlaces) (broken : BrokenRule) : Type 
   pub behind : List RulePlaces
   pub place : Location
   pub split : rules ≡ before ++ here ∷ behind
-  pub kept : All (λ r. r.places ≡ []) before
+  pub none_before : All (λ r. r.places ≡ []) before
   pub first : IsFirst here.places place
   pub rule : broken.rule ≡ here.rule
   pub line : broken.line ≡ place.line
@@ -53,26 +53,26 @@ broken_of r = option_map (λ place. record { rule = r.rule; line = place.line })
 abbrev pub first_broken : List RulePlace → Option BrokenRule
 first_broken rules = option_and_then broken_of (find (λ r. is_some r.place) rules)
 
-abbrev pub judged : NetlistRule → Option Location → RulePlace
-judged r first = record { rule = r; place = first }
+abbrev pub rule_place : NetlistRule → Option Location → RulePlace
+rule_place r first = record { rule = r; place = first }
 
 -- the rules with the numbers 1 to 8
 abbrev pub early_rules : NetlistPlaces → List RulePlace
-early_rules p = judged rule.RepeatedNames p.repeated_names
-    ∷ judged rule.AbsentTop p.absent_top
-    ∷ judged rule.UnknownMasters p.unknown_masters
-    ∷ judged rule.CircularReferences p.circular_references
-    ∷ judged rule.Ports p.ports
-    ∷ judged rule.RepeatedDeclarations p.repeated
-    ∷ judged rule.UndeclaredNets p.undeclared
-    ∷ judged rule.Selects p.selects
+early_rules p = rule_place rule.RepeatedNames p.repeated_names
+    ∷ rule_place rule.AbsentTop p.absent_top
+    ∷ rule_place rule.UnknownMasters p.unknown_masters
+    ∷ rule_place rule.CircularReferences p.circular_references
+    ∷ rule_place rule.Ports p.ports
+    ∷ rule_place rule.RepeatedDeclarations p.repeated
+    ∷ rule_place rule.UndeclaredNets p.undeclared
+    ∷ rule_place rule.Selects p.selects
     ∷ []
 
 -- the rules with the numbers 18 to 20
 abbrev pub late_rules : NetlistPlaces → List RulePlace
-late_rules p = judged rule.Ranges p.ranges
-    ∷ judged rule.CoarsePrecisions p.coarse_precisions
-    ∷ judged rule.ImplicitNets p.implicit
+late_rules p = rule_place rule.Ranges p.ranges
+    ∷ rule_place rule.CoarsePrecisions p.coarse_precisions
+    ∷ rule_place rule.ImplicitNets p.implicit
     ∷ []
 
 -- the broken rule with the lowest number

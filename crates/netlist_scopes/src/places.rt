@@ -20,7 +20,7 @@ pub struct NetlistPlaces {
     pub implicit: Option<Location>,
 }
 
-fn judged(rule: NetlistRule, place: Option<Location>) -> RulePlace
+fn rule_place(rule: NetlistRule, place: Option<Location>) -> RulePlace
     ensures { result ≡ record { rule = rule; place = place } }
 {
     RulePlace { rule, place }
@@ -32,14 +32,14 @@ impl NetlistPlaces {
         ensures { result ≡ early_rules self.now }
     {
         [
-            judged(NetlistRule::RepeatedNames, self.repeated_names),
-            judged(NetlistRule::AbsentTop, self.absent_top),
-            judged(NetlistRule::UnknownMasters, self.unknown_masters),
-            judged(NetlistRule::CircularReferences, self.circular_references),
-            judged(NetlistRule::Ports, self.ports),
-            judged(NetlistRule::RepeatedDeclarations, self.repeated),
-            judged(NetlistRule::UndeclaredNets, self.undeclared),
-            judged(NetlistRule::Selects, self.selects),
+            rule_place(NetlistRule::RepeatedNames, self.repeated_names),
+            rule_place(NetlistRule::AbsentTop, self.absent_top),
+            rule_place(NetlistRule::UnknownMasters, self.unknown_masters),
+            rule_place(NetlistRule::CircularReferences, self.circular_references),
+            rule_place(NetlistRule::Ports, self.ports),
+            rule_place(NetlistRule::RepeatedDeclarations, self.repeated),
+            rule_place(NetlistRule::UndeclaredNets, self.undeclared),
+            rule_place(NetlistRule::Selects, self.selects),
         ]
     }
 
@@ -48,9 +48,9 @@ impl NetlistPlaces {
         ensures { result ≡ late_rules self.now }
     {
         [
-            judged(NetlistRule::Ranges, self.ranges),
-            judged(NetlistRule::CoarsePrecisions, self.coarse_precisions),
-            judged(NetlistRule::ImplicitNets, self.implicit),
+            rule_place(NetlistRule::Ranges, self.ranges),
+            rule_place(NetlistRule::CoarsePrecisions, self.coarse_precisions),
+            rule_place(NetlistRule::ImplicitNets, self.implicit),
         ]
     }
 

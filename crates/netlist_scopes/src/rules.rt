@@ -47,7 +47,7 @@ pub struct BrokenRule {
 }
 
 impl NetlistRule {
-    /// The number of the rule in its message, by which rules are judged in order.
+    /// The number of the rule in its message, by which rules are entry in order.
     pub fn number(self) -> u8
         ensures { result ≡ number_of self }
     {
@@ -68,12 +68,12 @@ impl NetlistRule {
 }
 
 /// The rule with the line of its first place, where it is broken.
-fn broken_of(judged: RulePlace) -> Option<BrokenRule>
-    ensures { result ≡ broken_of judged }
+fn broken_of(entry: RulePlace) -> Option<BrokenRule>
+    ensures { result ≡ broken_of entry }
 {
-    match judged.place {
+    match entry.place {
         Some(place) => Some(BrokenRule {
-            rule: judged.rule,
+            rule: entry.rule,
             line: place.line,
         }),
         None => None,
@@ -81,18 +81,18 @@ fn broken_of(judged: RulePlace) -> Option<BrokenRule>
 }
 
 /// The first of these rules that has a place.
-fn first_placed(rules: &[RulePlace]) -> Option<RulePlace>
+fn first_with_place(rules: &[RulePlace]) -> Option<RulePlace>
     ensures { result ≡ find (λ r. is_some r.place) rules.now }
 {
-    rules.iter().copied().find(|judged| judged.place.is_some())
+    rules.iter().copied().find(|entry| entry.place.is_some())
 }
 
 /// The first of these rules that is broken, None where none is.
 pub fn first_broken(rules: &[RulePlace]) -> Option<BrokenRule>
     ensures { result ≡ first_broken rules.now }
 {
-    match first_placed(rules) {
-        Some(judged) => broken_of(judged),
+    match first_with_place(rules) {
+        Some(entry) => broken_of(entry),
         None => None,
     }
 }
