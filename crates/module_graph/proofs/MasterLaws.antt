@@ -1,18 +1,17 @@
 -- A table of the indexes of names, with one more name, and what it says of references.
-use Rattle.std.proofs.Common.{◌≡◌, ℕ, ◌+◌, ◌<◌, ◌≤◌, Bool, true, false, cond, ltb, List, [], ◌∷◌, ◌++◌, length, get_or, take, map, length-take, Option, Some, None, refl, sym, ap, subst, ◌∙◌, arith}
+use Rattle.std.proofs.Common.{◌≡◌, ℕ, ◌+◌, ◌<◌, Bool, true, false, cond, List, [], ◌∷◌, ◌++◌, length, get_or, take, map, length-take, Option, Some, None, refl, sym, ap, subst, ◌∙◌, arith}
 use Rattle.std.specs.Option.{option_or}
 use Rattle.std.specs.List.{filter_map, cons_option}
 use Rattle.std.proofs.lemmas.List.Elements.{filter_map-append}
 use Rattle.std.proofs.lemmas.Bool.{le-ltb}
 use Rattle.std.proofs.lemmas.List.{take_more, map-append, length-map}
 use Rattle.v_tree.specs.declared.modules.Module.{Module}
-use Rattle.v_tree.specs.declared.modules.Item.{Item}
 use Rattle.name_table.specs.Names.{same_name, index_of}
 use Rattle.module_graph.specs.declared.numbers.NumberTable.{NumberTable}
 use Rattle.module_graph.specs.declared.masters.MasterTable.{MasterTable}
 use Rattle.module_graph.specs.declared.references.Master.{Master}
 use Rattle.module_graph.specs.Numbers.{least_under, lesser, number_if}
-use Rattle.module_graph.specs.Graph.{master_at, master_of, references_in, references_of}
+use Rattle.module_graph.specs.Graph.{master_at, master_of, references_of}
 use Rattle.module_graph.specs.Masters.{HasIndexes, HasMasters, masters_under}
 use Rattle.module_graph.proofs.NumberLaws.{index_of_at, index_of-push}
 use mathlib.Core.Path.{fun_ext}

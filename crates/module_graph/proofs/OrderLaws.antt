@@ -1,8 +1,7 @@
 -- Where the reached modules stand in an order, none of their references leads back.
-use Rattle.std.proofs.Common.{◌≡◌, ℕ, zero, suc, ◌+◌, ◌<◌, ◌≤◌, Bool, true, false, not, cond, ◌&&◌, ◌||◌, eqb, ltb, List, [], ◌∷◌, ◌++◌, length, map, get_or, Option, None, refl, sym, ap, subst, ◌∙◌, zero-add, add-zero, arith, inl, inr, ◌⊎◌}
-use Rattle.std.specs.List.{list_all, list_any, enumerate_from, flat_map, filter}
-use Rattle.std.proofs.lemmas.Bool.{cases_lt, cases_Bool, and_parts, or_cases, ltb-true, eqb-true, both_ways, false_from_ne_true, or_left, or_right, eq-eqb}
-use Rattle.std.proofs.lemmas.List.{get_or_past}
+use Rattle.std.proofs.Common.{◌≡◌, ℕ, zero, suc, ◌+◌, ◌<◌, Bool, true, false, not, ◌||◌, ltb, List, [], ◌∷◌, ◌++◌, length, get_or, None, refl, sym, ap, subst, ◌∙◌, zero-add, add-zero, arith, inl, inr}
+use Rattle.std.specs.List.{list_all, enumerate_from, flat_map}
+use Rattle.std.proofs.lemmas.Bool.{and_parts, or_cases, ltb-true, eqb-true, false_from_ne_true, or_left, or_right, eq-eqb}
 use Rattle.std.proofs.lemmas.List.FromFn.{length-enumerate_from, get_or-enumerate_from}
 use Rattle.v_tree.specs.declared.locations.Location.{Location}
 use Rattle.rule_places.specs.Places.{first_place, places_where}
@@ -70,10 +69,10 @@ module _ (positions : List ℕ) (reached : List Bool) (rs : List (List Reference
         let one = step a b here e in
         let ahead : get_or positions a 0 < get_or positions b 0 = one.1 in
         false_from_ne_true (is_reached rs b a) (λ (back : is_reached rs b a ≡ true).
-          elim (is_reached_cases rs b a back) [
-            | inl same ↦ let equal : get_or positions a 0 ≡ get_or positions b 0 = ap (λ n. get_or positions n 0) same in omega arith
-            | inr walk ↦ let behind : get_or positions b 0 < get_or positions a 0 = along walk one.0 in omega arith
-          ])
+        elim (is_reached_cases rs b a back) [
+          | inl same ↦ let equal : get_or positions a 0 ≡ get_or positions b 0 = ap (λ n. get_or positions n 0) same in omega arith
+          | inr walk ↦ let behind : get_or positions b 0 < get_or positions a 0 = along walk one.0 in omega arith
+        ])
 
     back_of : (a : ℕ) (m : Master) → ((b : ℕ) → is_module b m ≡ true → is_reached rs b a ≡ false) → leads_back rs a m ≡ false
     back_of a (Module b) none = none b (eq-eqb b b refl)

@@ -1,7 +1,7 @@
 -- A search, step by step.
-use Rattle.std.proofs.Common.{◌≡◌, ℕ, suc, ◌+◌, ◌<◌, ◌≤◌, Bool, true, false, not, cond, ◌||◌, List, [], ◌∷◌, ◌++◌, length, length-append, get_or, set, take, map, replicate, eqb, refl, sym, ap, subst, ◌∙◌, arith, inl, inr, ◌⊎◌, ⊎_elim}
-use Rattle.std.specs.List.{count_by, Contains, range_with_len, list_any, sum_by}
-use Rattle.std.proofs.lemmas.Bool.{cases_lt, cases_eq, cases_Bool, or_cases, or_left, or_right, eqb-true, eq-eqb, false≢true}
+use Rattle.std.proofs.Common.{◌≡◌, ℕ, ◌+◌, ◌<◌, Bool, true, false, not, cond, ◌||◌, List, [], ◌∷◌, ◌++◌, length, length-append, get_or, set, take, replicate, eqb, refl, sym, ap, subst, ◌∙◌, arith, inl, inr, ◌⊎◌}
+use Rattle.std.specs.List.{count_by, Contains}
+use Rattle.std.proofs.lemmas.Bool.{cases_lt, cases_eq, or_cases, or_left, or_right, eqb-true, eq-eqb, false≢true}
 use Rattle.std.proofs.lemmas.List.{get_or_past, get_or-set_same, get_or-set_other, length-set, ext_get_or, take_more, get_or-replicate, length-replicate}
 use Rattle.std.proofs.lemmas.List.Elements.{Contains-append_left, Contains-push, Contains-push_cases}
 use Rattle.std.proofs.lemmas.List.Folds.{list_any-append}
@@ -9,10 +9,10 @@ use Rattle.std.proofs.lemmas.List.FromFn.{length-map-range_with_len, get_or-map-
 use Rattle.std.proofs.lemmas.List.Sums.{sum_by-set}
 use Rattle.module_graph.specs.declared.reach.Search.{Search}
 use Rattle.module_graph.specs.declared.references.Reference.{Reference}
-use Rattle.module_graph.specs.Reach.{refers_to, instantiates, LeadsTo, indexes, is_reached, is_module, reached_modules}
+use Rattle.module_graph.specs.Reach.{refers_to, instantiates, LeadsTo, is_reached, is_module, reached_modules}
 use Rattle.module_graph.specs.Reach.LeadsTo.{Directly, Through}
 use Rattle.module_graph.specs.Searches.{IsFound, work_left, IsStart, Found, Followed, IsSearch}
-use Rattle.module_graph.proofs.ReachLaws.{LeadsTo_within, is_reached_top, is_reached_from, is_reached_cases, is_reached_on}
+use Rattle.module_graph.proofs.ReachLaws.{LeadsTo_within, is_reached_top, is_reached_cases, is_reached_on}
 
 -- ---- one module
 
@@ -290,6 +290,6 @@ module _ (rs : List (List Reference)) (top : ℕ) where
     reached-done = ext_get_or false s.reached (reached_modules rs top)
         (search.all ∙ sym (length-map-range_with_len (is_reached rs top) 0 (length rs)))
         (λ k lt.
-          let within : k < length rs = subst (λ (n : ℕ). k < n) search.all lt in
-          both_true (get_or s.reached k false) (is_reached rs top k) (search.sound k) (found_reached k within)
-          ∙ sym (get_or-map-range_with_len (is_reached rs top) 0 (length rs) k k false within (omega arith)))
+        let within : k < length rs = subst (λ (n : ℕ). k < n) search.all lt in
+        both_true (get_or s.reached k false) (is_reached rs top k) (search.sound k) (found_reached k within)
+        ∙ sym (get_or-map-range_with_len (is_reached rs top) 0 (length rs) k k false within (omega arith)))

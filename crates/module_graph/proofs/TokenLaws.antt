@@ -1,6 +1,5 @@
 -- A table of least tokens, with one more name.
-use Rattle.std.proofs.Common.{◌≡◌, ℕ, ◌+◌, ◌<◌, ◌≤◌, Bool, true, false, cond, ◌||◌, ◌&&◌, ltb, List, [], ◌∷◌, ◌++◌, length, get_or, take, map, append_assoc, Option, Some, None, refl, sym, ap, subst, ◌∙◌, arith}
-use Rattle.std.specs.List.{list_any}
+use Rattle.std.proofs.Common.{◌≡◌, ℕ, ◌+◌, ◌<◌, Bool, true, false, cond, ◌||◌, ◌&&◌, ltb, List, [], ◌∷◌, ◌++◌, length, get_or, take, map, append_assoc, Option, Some, None, refl, sym, ap, subst, ◌∙◌, arith}
 use Rattle.std.proofs.lemmas.Bool.Decides.{nat_tests}
 use Rattle.std.proofs.lemmas.List.{take_more, map-append}
 use Rattle.std.proofs.lemmas.List.Folds.{list_any-append}
@@ -8,7 +7,7 @@ use Rattle.v_tree.specs.declared.locations.Name.{Name}
 use Rattle.name_table.specs.Names.{same_name}
 use Rattle.module_graph.specs.declared.numbers.NumberTable.{NumberTable}
 use Rattle.module_graph.specs.Numbers.{least_under, lesser, number_if}
-use Rattle.module_graph.specs.Tokens.{is_below, stands_before, HasTokens}
+use Rattle.module_graph.specs.Tokens.{is_below, HasTokens}
 
 or_false : (b : Bool) → b ≡ (b || false)
 or_false true = refl

@@ -1,5 +1,5 @@
 -- The names of modules and primitives, and those that were there before (IEEE 1364-2005, 12.1).
-use Rattle.std.specs.Prelude.{ℕ, Bool, ◌&&◌, List, ◌++◌, map, nat_lt}
+use Rattle.std.specs.Prelude.{Bool, ◌&&◌, List, ◌++◌, map, nat_lt}
 use Rattle.std.specs.List.{list_any}
 use Rattle.v_tree.specs.declared.locations.Location.{Location}
 use Rattle.v_tree.specs.declared.locations.Name.{Name}

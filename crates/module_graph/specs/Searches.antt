@@ -1,5 +1,5 @@
 -- For the code alone: a search for the modules that a module leads to.
-use Rattle.std.specs.Prelude.{◌≡◌, ◌<◌, ◌+◌, ◌⊎◌, ℕ, Bool, true, false, not, List, [], ◌∷◌, length, replicate, slice_index_or}
+use Rattle.std.specs.Prelude.{◌≡◌, ◌<◌, ◌+◌, ◌⊎◌, ℕ, true, false, not, List, [], length, replicate, slice_index_or}
 use Rattle.std.specs.List.{count_by, Contains}
 use Rattle.module_graph.specs.declared.reach.Search.{Search}
 use Rattle.module_graph.specs.declared.references.Reference.{Reference}

@@ -41,7 +41,7 @@ fn circular_in(
     requires { «module» < length references.now }
     ensures { IfOk result (λ first. first ≡ earliest start (first_place
         (places_where (λ r. leads_back references.now «module» r.master) (λ r. r.location)
-            list.now))) }
+        list.now))) }
 {
     let mut first = start;
     for reference in list {
@@ -65,7 +65,7 @@ fn circular_of(
     requires { «module» < length references.now }
     ensures { IfOk result (λ first. first ≡ earliest start (first_place
         (places_in (λ index r. leads_back references.now index r.master) reached.now
-            («module», slice_index_or references.now «module» [])))) }
+        («module», slice_index_or references.now «module» [])))) }
 {
     if is_reached(reached, module) {
         circular_in(
@@ -88,7 +88,7 @@ fn exact_circular(
 ) -> Result<Option<Location>, AllocError>
     ensures { IfOk result (λ place. place ≡ first_place
         (reached_places (λ index r. leads_back references.now index r.master)
-            references.now reached.now)) }
+        references.now reached.now)) }
 {
     let mut first = None;
     for module in 0..references.len() {
@@ -106,7 +106,7 @@ pub(crate) fn first_circular(
 ) -> Result<Option<Location>, AllocError>
     ensures { IfOk result (λ place. place ≡ first_place
         (reached_places (λ index r. leads_back references.now index r.master)
-            references.now reached.now)) }
+        references.now reached.now)) }
 {
     let positions = positions_of(alloc, reached, references)?;
     if is_in_order(&positions, reached, references) {

@@ -39,7 +39,7 @@ impl NumberTable {
         ensures whole { OnOk result (IsWhole self.new) }
         ensures numbers { OnOk result ((other : List ℕ) →
             least_under other self.new
-                ≡ lesser (least_under other self.old) (number_if other name.now number)) }
+            ≡ lesser (least_under other self.old) (number_if other name.now number)) }
     {
         match self.names.find(name) {
             Some(index) => lower(&mut self.numbers, index, number),

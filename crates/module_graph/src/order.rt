@@ -10,39 +10,30 @@ use std::alloc::{AllocError, Global};
 fn number_of(numbers: &[usize], module: usize) -> usize
     ensures { result ≡ slice_index numbers.now «module» }
 {
-    if module < numbers.len() { numbers[module] } else { 0 }
+    if module < numbers.len() {
+        numbers[module]
+    } else {
+        0
+    }
 }
 
 /// Whether the module that a reference is to is reached, and stands behind another.
-fn is_later(
-    positions: &[usize],
-    reached: &[bool],
-    module: usize,
-    reference: &Reference,
-) -> bool
+fn is_later(positions: &[usize], reached: &[bool], module: usize, reference: &Reference) -> bool
     ensures { result ≡ is_later positions.now reached.now «module» reference.now }
 {
     match reference.master {
         Master::Module(other) => {
-            is_reached(reached, other)
-                && number_of(positions, module) < number_of(positions, other)
+            is_reached(reached, other) && number_of(positions, module) < number_of(positions, other)
         }
         Master::Udp(_) | Master::Unknown => true,
     }
 }
 
 /// The same for all references of a module.
-fn are_later(
-    positions: &[usize],
-    reached: &[bool],
-    module: usize,
-    references: &[Reference],
-) -> bool
+fn are_later(positions: &[usize], reached: &[bool], module: usize, references: &[Reference]) -> bool
     ensures { result ≡ are_later positions.now reached.now «module» references.now }
 {
-    references
-        .iter()
-        .all(|reference| is_later(positions, reached, module, reference))
+    references.iter().all(|reference| is_later(positions, reached, module, reference))
 }
 
 /// Whether each reached module stands before those that it instantiates, which are reached too.
@@ -93,7 +84,11 @@ fn reference_counts(
 }
 
 /// The reached modules that no reference of a reached module is to.
-fn first_ready(alloc: Global, reached: &[bool], counts: &[usize]) -> Result<Vec<usize>, AllocError> {
+fn first_ready(
+    alloc: Global,
+    reached: &[bool],
+    counts: &[usize],
+) -> Result<Vec<usize>, AllocError> {
     let mut ready = Vec::new(alloc);
     for (module, count) in counts.iter().enumerate() {
         if is_reached(reached, module) && *count == 0 {

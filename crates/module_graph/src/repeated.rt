@@ -68,7 +68,7 @@ fn has_earlier(table: &NumberTable, name: &Name) -> bool
 fn repeated_module(table: &NumberTable, modules: &[Module]) -> Option<Location>
     ensures { (names : List TheName) → HasTokens names table.now →
         result ≡ first_place
-            (places_where (λ m. has_earlier names m.name) (λ m. m.name.location) modules.now) }
+        (places_where (λ m. has_earlier names m.name) (λ m. m.name.location) modules.now) }
 {
     let mut first = None;
     for module in modules {
@@ -83,7 +83,7 @@ fn repeated_module(table: &NumberTable, modules: &[Module]) -> Option<Location>
 fn repeated_udp(table: &NumberTable, udps: &[UdpDecl]) -> Option<Location>
     ensures { (names : List TheName) → HasTokens names table.now →
         result ≡ first_place
-            (places_where (λ u. has_earlier names u.name) (λ u. u.name.location) udps.now) }
+        (places_where (λ u. has_earlier names u.name) (λ u. u.name.location) udps.now) }
 {
     let mut first = None;
     for udp in udps {
@@ -107,8 +107,5 @@ pub fn repeated_name(
     let modules = modules.as_slice();
     let udps = udps.as_slice();
     let table = first_tokens(alloc, modules, udps)?;
-    Ok(earliest(
-        repeated_module(&table, modules),
-        repeated_udp(&table, udps),
-    ))
+    Ok(earliest(repeated_module(&table, modules), repeated_udp(&table, udps)))
 }

@@ -1,10 +1,9 @@
-use Rattle.std.proofs.Common.{◌≡◌, ◌<◌, ◌+◌, List, [], length, get_or, drop, Option, subst, sym, arith}
+use Rattle.std.proofs.Common.{◌≡◌, ◌<◌, ◌+◌, [], length, get_or, drop, Option, subst, sym, arith}
 use Rattle.std.specs.List.{flat_map, enumerate_from}
 use Rattle.std.proofs.lemmas.List.{get_or_default}
 use Rattle.v_tree.specs.declared.locations.Location.{Location}
 use Rattle.rule_places.specs.Places.{earliest, first_place}
 use Rattle.rule_places.proofs.PlaceSteps.{enumerate_step}
-use Rattle.module_graph.specs.declared.references.Reference.{Reference}
 use Rattle.module_graph.specs.Rules.{leads_back, places_in, reached_places}
 use Rattle.module_graph.proofs.circles.exact_circular.Goals as goal
 
@@ -16,4 +15,4 @@ loop-module-preserved c =
     let rest = first_place (flat_map (places_in (λ index r. leads_back c.args.references.now index r.master) c.args.reached.now) (enumerate_from (c.loop-module.module + 1) (drop (c.loop-module.module + 1) c.args.references.now))) in
     subst (λ (first : Option Location). whole ≡ earliest first rest) (sym c.in_ok-first.ensures)
     (enumerate_step (places_in (λ index r. leads_back c.args.references.now index r.master) c.args.reached.now) c.args.references.now c.loop-module.module whole c.loop-module.first
-      c.loop-module.invariant list within (get_or_default c.args.references.now c.loop-module.module list [] within))
+    c.loop-module.invariant list within (get_or_default c.args.references.now c.loop-module.module list [] within))

@@ -1,4 +1,4 @@
-use Rattle.std.proofs.Common.{◌≡◌, sym, ◌∙◌}
+use Rattle.std.proofs.Common.{sym, ◌∙◌}
 use Rattle.module_graph.proofs.OrderLaws.{no_circle}
 use Rattle.module_graph.proofs.circles.first_circular.Goals as goal
 

@@ -1,4 +1,4 @@
-use Rattle.std.proofs.Common.{◌≡◌, ◌<◌, ◌≤◌, List, ℕ, length, take, map, sym, ap, subst, ◌∙◌, arith}
+use Rattle.std.proofs.Common.{◌<◌, List, ℕ, length, map, sym, ap, subst, ◌∙◌, arith}
 use Rattle.std.proofs.lemmas.List.{take_all}
 use Rattle.v_tree.specs.declared.modules.Module.{Module}
 use Rattle.module_graph.specs.Numbers.{least_under, lesser, number_if}
@@ -17,7 +17,7 @@ loop-index-preserved c =
       indexes = HasIndexes-more (λ (m : Module). m.name.text) c.args.modules.now c.loop-index.index c.index-modules-index.result c.loop-index.table c.put.new.self within
           (sym c.index-modules-index.is) c.loop-index.invariant.indexes
           (λ other. c.in_ok-put.ensures.numbers other
-            ∙ ap (λ (text : List ℕ). lesser (least_under other c.loop-index.table) (number_if other text c.loop-index.index)) c.as_slice.ensures);
+          ∙ ap (λ (text : List ℕ). lesser (least_under other c.loop-index.table) (number_if other text c.loop-index.index)) c.as_slice.ensures);
     }
 
 pub returns : goal.returns

@@ -1,4 +1,4 @@
-use Rattle.std.proofs.Common.{◌≡◌, ◌<◌, ◌++◌, ◌+◌, take, [], List, ap, ◌∙◌, sym, length, arith, Option, None, Some, Vec}
+use Rattle.std.proofs.Common.{◌≡◌, ◌<◌, ◌++◌, ◌+◌, take, [], List, ap, ◌∙◌, sym, length, arith, Option, Vec}
 use Rattle.std.specs.List.{cons_option}
 use Rattle.std.proofs.lemmas.List.{append-nil}
 use Rattle.std.specs.Global.{Global}
@@ -15,7 +15,7 @@ more c =
     let within : c.loop-item.item-index < length c.args.items.now = omega arith in
     ap (λ (list : List Reference). list ++ cons_option c.reference_of.result []) c.loop-item.invariant
     ∙ sym (filter_map_more (reference_of (masters_under c.args.masters.now)) c.args.items.now c.loop-item.item-index c.item-item.result c.reference_of.result within
-      (sym c.item-item.is) (sym c.reference_of.ensures))
+    (sym c.item-item.is) (sym c.reference_of.ensures))
 
 pub loop-item-preserved : goal.loop-item-preserved
 loop-item-preserved c =

@@ -1,5 +1,5 @@
-use Rattle.std.proofs.Common.{◌≡◌, ◌<◌, length, get_or, false, Bool, List, sym, ap, ◌∙◌, arith}
-use Rattle.module_graph.proofs.SearchLaws.{Found-same, Found-new}
+use Rattle.std.proofs.Common.{◌<◌, length, get_or, false, Bool, List, sym, ap, ◌∙◌, arith}
+use Rattle.module_graph.proofs.SearchLaws.{Found-new}
 use Rattle.module_graph.proofs.reach.find.Goals as goal
 
 pub returns-in_ok-push : goal.returns-in_ok-push

@@ -1,8 +1,8 @@
-use Rattle.std.proofs.Common.{◌≡◌, ◌<◌, ◌+◌, ◌∷◌, ◌++◌, [], List, length, get_or, refl, sym, ap, subst, ◌∙◌, arith, rules}
+use Rattle.std.proofs.Common.{◌≡◌, ◌<◌, ◌+◌, [], List, length, get_or, refl, subst, ◌∙◌, arith, rules}
 use Rattle.std.proofs.lemmas.List.{get_or_default}
 use Rattle.module_graph.specs.declared.reach.Search.{Search}
 use Rattle.module_graph.specs.declared.references.Reference.{Reference}
-use Rattle.module_graph.specs.Searches.{Followed, IsSearch, work_left}
+use Rattle.module_graph.specs.Searches.{Followed, work_left}
 use Rattle.module_graph.proofs.SearchLaws.{IsSearch-start, IsSearch-next, work_less, waiting_within, reached-done}
 use Rattle.module_graph.proofs.reach.reached_from.Goals as goal
 

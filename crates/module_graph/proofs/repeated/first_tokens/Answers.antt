@@ -1,4 +1,4 @@
-use Rattle.std.proofs.Common.{◌≡◌, [], List, ℕ, map}
+use Rattle.std.proofs.Common.{[], map}
 use Rattle.module_graph.proofs.TokenLaws.{HasTokens-none}
 use Rattle.module_graph.proofs.repeated.first_tokens.Goals as goal
 

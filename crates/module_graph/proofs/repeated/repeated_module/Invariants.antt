@@ -8,4 +8,4 @@ use Rattle.module_graph.proofs.repeated.repeated_module.Given as goal
 abbrev pub invariant-loop-module : goal.invariant-loop-module
 invariant-loop-module l = (names : List Name) → HasTokens names l.table →
     first_place (places_where (λ x. has_earlier names x.name) (λ x. x.name.location) l.modules)
-      ≡ earliest l.first (first_place (places_where (λ x. has_earlier names x.name) (λ x. x.name.location) (drop l.module-index l.modules)))
+    ≡ earliest l.first (first_place (places_where (λ x. has_earlier names x.name) (λ x. x.name.location) (drop l.module-index l.modules)))

@@ -12,16 +12,16 @@ use Rattle.module_graph.proofs.repeated.repeated_name.Goals as goal
 -- the names of modules and those of primitives, one after the other
 both_kinds : (names : List Name) (modules : List Module) (udps : List UdpDecl) →
     first_place (places_where (has_earlier names) (λ name. name.location) (described_names modules udps))
-      ≡ earliest (first_place (places_where (λ m. has_earlier names m.name) (λ m. m.name.location) modules))
-        (first_place (places_where (λ u. has_earlier names u.name) (λ u. u.name.location) udps))
+    ≡ earliest (first_place (places_where (λ m. has_earlier names m.name) (λ m. m.name.location) modules))
+    (first_place (places_where (λ u. has_earlier names u.name) (λ u. u.name.location) udps))
 both_kinds names modules udps =
     ap first_place (places_where-append (has_earlier names) (λ (name : Name). name.location) (map (λ (m : Module). m.name) modules) (map (λ (u : UdpDecl). u.name) udps)
-      ∙ ap (λ (front : List Location). front ++ places_where (has_earlier names) (λ (name : Name). name.location) (map (λ (u : UdpDecl). u.name) udps))
-        (places_where-map (has_earlier names) (λ (name : Name). name.location) (λ (m : Module). m.name) modules)
-      ∙ ap (λ (rest : List Location). places_where (λ (m : Module). has_earlier names m.name) (λ (m : Module). m.name.location) modules ++ rest)
-        (places_where-map (has_earlier names) (λ (name : Name). name.location) (λ (u : UdpDecl). u.name) udps))
+    ∙ ap (λ (front : List Location). front ++ places_where (has_earlier names) (λ (name : Name). name.location) (map (λ (u : UdpDecl). u.name) udps))
+    (places_where-map (has_earlier names) (λ (name : Name). name.location) (λ (m : Module). m.name) modules)
+    ∙ ap (λ (rest : List Location). places_where (λ (m : Module). has_earlier names m.name) (λ (m : Module). m.name.location) modules ++ rest)
+    (places_where-map (has_earlier names) (λ (name : Name). name.location) (λ (u : UdpDecl). u.name) udps))
     ∙ first_place-append (places_where (λ (m : Module). has_earlier names m.name) (λ (m : Module). m.name.location) modules)
-      (places_where (λ (u : UdpDecl). has_earlier names u.name) (λ (u : UdpDecl). u.name.location) udps)
+    (places_where (λ (u : UdpDecl). has_earlier names u.name) (λ (u : UdpDecl). u.name.location) udps)
 
 pub returns : goal.returns
 returns c =

@@ -8,4 +8,4 @@ use Rattle.module_graph.proofs.repeated.repeated_udp.Given as goal
 abbrev pub invariant-loop-udp : goal.invariant-loop-udp
 invariant-loop-udp l = (names : List Name) → HasTokens names l.table →
     first_place (places_where (λ x. has_earlier names x.name) (λ x. x.name.location) l.udps)
-      ≡ earliest l.first (first_place (places_where (λ x. has_earlier names x.name) (λ x. x.name.location) (drop l.udp-index l.udps)))
+    ≡ earliest l.first (first_place (places_where (λ x. has_earlier names x.name) (λ x. x.name.location) (drop l.udp-index l.udps)))

@@ -1,4 +1,4 @@
-use Rattle.std.proofs.Common.{◌≡◌, ◌<◌, Bool, true, false, length, get_or, ap, sym, ◌∙◌, arith}
+use Rattle.std.proofs.Common.{◌≡◌, ◌<◌, true, false, length, get_or, ap, sym, ◌∙◌, arith}
 use Rattle.name_table.specs.Names.{same_name}
 use Rattle.module_graph.proofs.TopLaws.{index_of-more, index_of-found}
 use Rattle.module_graph.proofs.top.first_of.Goals as goal

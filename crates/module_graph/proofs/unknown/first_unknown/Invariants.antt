@@ -7,4 +7,4 @@ use Rattle.module_graph.proofs.unknown.first_unknown.Given as goal
 abbrev pub invariant-loop-module : goal.invariant-loop-module
 invariant-loop-module l =
     first_place (reached_places (λ index r. is_unknown r.master) l.references l.reached)
-      ≡ earliest l.first (first_place (flat_map (places_in (λ index r. is_unknown r.master) l.reached) (enumerate_from l.module (drop l.module l.references))))
+    ≡ earliest l.first (first_place (flat_map (places_in (λ index r. is_unknown r.master) l.reached) (enumerate_from l.module (drop l.module l.references))))

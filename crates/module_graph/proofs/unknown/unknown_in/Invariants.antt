@@ -6,4 +6,4 @@ use Rattle.module_graph.proofs.unknown.unknown_in.Given as goal
 abbrev pub invariant-loop-reference : goal.invariant-loop-reference
 invariant-loop-reference l =
     first_place (places_where (λ r. is_unknown r.master) (λ r. r.location) l.references)
-      ≡ earliest l.first (first_place (places_where (λ r. is_unknown r.master) (λ r. r.location) (drop l.reference-index l.references)))
+    ≡ earliest l.first (first_place (places_where (λ r. is_unknown r.master) (λ r. r.location) (drop l.reference-index l.references)))

@@ -1,4 +1,4 @@
-use Rattle.std.proofs.Common.{◌≡◌, ◌<◌, ◌+◌, ◌++◌, ◌∷◌, [], List, ℕ, length, length-append, ap, sym, ◌∙◌, arith}
+use Rattle.std.proofs.Common.{◌≡◌, ◌+◌, ◌++◌, ◌∷◌, [], List, ℕ, length, length-append, ap, sym, ◌∙◌, arith}
 use Rattle.name_table.specs.Names.{index_of}
 use Rattle.module_graph.specs.Numbers.{number_at}
 use Rattle.module_graph.proofs.NumberLaws.{index_of_at, added_name, least_lowered, least_new}
