@@ -1,17 +1,20 @@
 -- The places of mentions, by the indices of their names.
-use Rattle.std.proofs.Common.{◌≡◌, ℕ, zero, suc, ◌+◌, ◌<◌, ◌≤◌, Bool, true, false, cond, not, ◌||◌, List, [], ◌∷◌, ◌++◌, length, map, get_or, take, drop, eqb, Option, None, Some, refl, sym, ap, ◌∙◌, arith, inl, inr, drop-cons, add-one}
-use Rattle.std.specs.List.{All, filter}
+use Rattle.std.proofs.Common.{◌≡◌, ℕ, zero, suc, ◌+◌, ◌<◌, ◌≤◌, Bool, true, false, cond, not, ◌&&◌, ◌||◌, List, [], ◌∷◌, ◌++◌, length, map, get_or, take, drop, eqb, Option, None, Some, refl, sym, ap, ◌∙◌, arith, inl, inr, drop-cons, add-one}
+use Rattle.std.specs.List.{All, filter, find}
 use Rattle.std.specs.Option.{is_some}
 use Rattle.std.proofs.lemmas.Bool.{cases_eq, and_parts, not-true, both_ways, false_from_ne_true, eq-eqb, ne_eqb}
 use Rattle.std.proofs.lemmas.List.{map-append, ext_get_or, get_or-map, length-map, take_more, drop_all}
 use Rattle.std.proofs.lemmas.List.Elements.{All-head, All-tail, All-nil, All-push}
 use Rattle.v_tree.specs.declared.locations.Location.{Location}
+use Rattle.v_tree.specs.declared.declarations.NetType.{NetType}
 use Rattle.v_tree.specs.declared.directives.ImplicitNetType.{ImplicitNetType}
 use Rattle.rule_places.specs.Places.{earliest, first_place}
 use Rattle.rule_places.proofs.PlaceLaws.{first_place-append, earliest_assoc, earliest_none}
 use Rattle.name_table.specs.Names.{same_name, is_among, is_distinct}
 use Rattle.module_scope.specs.declared.roles.Role.{Role}
 use Rattle.module_scope.specs.declared.roles.Role.TheVariants as role
+use Rattle.module_scope.specs.declared.roles.Count.{Count}
+use Rattle.module_scope.specs.declared.roles.Count.TheVariants.{Zero, One, Several}
 use Rattle.module_scope.specs.declared.mentions.Occurrence.{Occurrence}
 use Rattle.module_scope.specs.declared.summaries.Summary.{Summary}
 use Rattle.module_scope.specs.declared.rules.NameRule.{NameRule}
@@ -20,16 +23,70 @@ use Rattle.module_scope.specs.declared.nets.ScopeNet.{ScopeNet}
 use Rattle.module_scope.specs.declared.scopes.Scope.{Scope}
 use Rattle.module_scope.specs.declared.places.ScopePlaces.{ScopePlaces}
 use Rattle.module_scope.specs.Mentions.{Mention, roles_of}
-use Rattle.module_scope.specs.Rules.{breaks}
+use Rattle.module_scope.specs.Roles.{is_zero, how_many, is_declaration, declares_net}
+use Rattle.module_scope.specs.Rules.{breaks, is_pair, completes, repeats, has_implicit, makes_implicit, first_range, differs, differs_from}
 use Rattle.module_scope.specs.Nets.{net_of, nets_of}
 use Rattle.module_scope.specs.Places.{place_if, places_behind, rule_place, scope_places}
 use Rattle.module_scope.specs.Scopes.{scope_with}
 use Rattle.module_scope.specs.Occurrences.{mention_at, mentions_at, AreOccurrences, roles_at, occurrence_places, occurrence_place, occurrences_places}
-use Rattle.module_scope.specs.Summaries.{summary_of, summaries_of, summary_breaks, summary_net, first_more, places_more}
+use Rattle.module_scope.specs.Summaries.{port_form, form_in, form_completes, form_repeats, form_differs, summary_of, summaries_of, summary_breaks, summary_net, first_more, places_more}
 use Rattle.module_scope.proofs.Naming.{same_name-true, eq-same_name}
 use Rattle.module_scope.proofs.Summing.{length-summaries_of, get_or-summaries_of}
 
 -- ---- a rule asks of the roles what their summary keeps
+
+completes_form : (first : Option Role) (r : Role) → form_completes (form_in first) r ≡ completes first r
+completes_form None r = refl
+completes_form (Some role.Header) r = refl
+completes_form (Some (role.Port port)) r = by port.net_type r
+  where
+    by : (t : Option NetType) (r : Role) → form_completes (port_form t) r ≡ is_pair (role.Port (record port { net_type = t })) r
+    by None role.Header = refl
+    by None (role.Port other) = refl
+    by None (role.Net net) = refl
+    by None role.Instance = refl
+    by None (role.Use at select) = refl
+    by (Some t) role.Header = refl
+    by (Some t) (role.Port other) = refl
+    by (Some t) (role.Net net) = refl
+    by (Some t) role.Instance = refl
+    by (Some t) (role.Use at select) = refl
+completes_form (Some (role.Net net)) role.Header = refl
+completes_form (Some (role.Net net)) (role.Port port) = refl
+completes_form (Some (role.Net net)) (role.Net other) = refl
+completes_form (Some (role.Net net)) role.Instance = refl
+completes_form (Some (role.Net net)) (role.Use at select) = refl
+completes_form (Some role.Instance) r = refl
+completes_form (Some (role.Use at select)) r = refl
+
+repeats_form : (count : Count) (first : Option Role) (r : Role) → form_repeats count (form_in first) r ≡ repeats count first r
+repeats_form Zero first r = refl
+repeats_form One first r = ap not (completes_form first r)
+repeats_form Several first r = refl
+
+differs_form : (first : Option Role) (r : Role) → form_differs (form_in first) (first_range first) r ≡ differs_from first r
+differs_form None r = refl
+differs_form (Some role.Header) r = refl
+differs_form (Some (role.Port port)) r = by port.net_type r
+  where
+    by : (t : Option NetType) (r : Role) → form_differs (port_form t) port.range r ≡ differs (role.Port (record port { net_type = t })) r
+    by None role.Header = refl
+    by None (role.Port other) = refl
+    by None (role.Net net) = refl
+    by None role.Instance = refl
+    by None (role.Use at select) = refl
+    by (Some t) role.Header = refl
+    by (Some t) (role.Port other) = refl
+    by (Some t) (role.Net net) = refl
+    by (Some t) role.Instance = refl
+    by (Some t) (role.Use at select) = refl
+differs_form (Some (role.Net net)) role.Header = refl
+differs_form (Some (role.Net net)) (role.Port port) = refl
+differs_form (Some (role.Net net)) (role.Net other) = refl
+differs_form (Some (role.Net net)) role.Instance = refl
+differs_form (Some (role.Net net)) (role.Use at select) = refl
+differs_form (Some role.Instance) r = refl
+differs_form (Some (role.Use at select)) r = refl
 
 pub breaks_summary : (law : NameRule) (makes : Bool) (all before : List Role) (r : Role) → summary_breaks law makes (summary_of all) (summary_of before) r ≡ breaks law makes all before r
 breaks_summary rule.Ports makes all before role.Header = refl
@@ -37,7 +94,9 @@ breaks_summary rule.Ports makes all before (role.Port port) = refl
 breaks_summary rule.Ports makes all before (role.Net net) = refl
 breaks_summary rule.Ports makes all before role.Instance = refl
 breaks_summary rule.Ports makes all before (role.Use at select) = refl
-breaks_summary rule.Repeated makes all before r = refl
+breaks_summary rule.Repeated makes all before r =
+    ap (λ (b : Bool). cond (is_declaration r) (has_implicit makes all before || b) (makes_implicit makes all before r && not (is_zero (how_many is_declaration before))))
+    (repeats_form (how_many is_declaration before) (find is_declaration before) r)
 breaks_summary rule.Undeclared makes all before role.Header = refl
 breaks_summary rule.Undeclared makes all before (role.Port port) = refl
 breaks_summary rule.Undeclared makes all before (role.Net net) = refl
@@ -49,7 +108,7 @@ breaks_summary rule.Selects makes all before (role.Net net) = refl
 breaks_summary rule.Selects makes all before role.Instance = refl
 breaks_summary rule.Selects makes all before (role.Use at None) = refl
 breaks_summary rule.Selects makes all before (role.Use at (Some select)) = refl
-breaks_summary rule.Ranges makes all before r = refl
+breaks_summary rule.Ranges makes all before r = differs_form (find declares_net before) r
 breaks_summary rule.Implicit makes all before role.Header = refl
 breaks_summary rule.Implicit makes all before (role.Port port) = refl
 breaks_summary rule.Implicit makes all before (role.Net net) = refl

@@ -1,19 +1,23 @@
 -- Summaries of the roles of names.
-use Rattle.std.proofs.Common.{◌≡◌, ℕ, ◌+◌, ◌<◌, Bool, true, false, cond, ◌||◌, List, [], ◌∷◌, ◌++◌, length, map, get_or, set, take, eqb, refl, sym, ap, ◌∙◌, arith, inl, inr, length-set, get_or-set_other}
+use Rattle.std.proofs.Common.{◌≡◌, ℕ, ◌+◌, ◌<◌, Bool, true, false, cond, ◌||◌, List, [], ◌∷◌, ◌++◌, length, map, get_or, set, take, eqb, Option, None, Some, refl, sym, ap, ◌∙◌, arith, inl, inr, length-set, get_or-set_other}
 use Rattle.std.specs.List.{find, filter, list_any}
+use Rattle.std.specs.Option.{is_some, option_or}
 use Rattle.std.proofs.lemmas.Bool.{cases_eq, eq-eqb, ne_eqb}
 use Rattle.std.proofs.lemmas.List.{map-append, append-nil, ext_get_or, take_more}
 use Rattle.std.proofs.lemmas.Grind.{get_or-set_at}
 use Rattle.std.proofs.lemmas.List.Elements.{filter-append}
 use Rattle.std.proofs.lemmas.List.Folds.{find-append}
 use Rattle.std.proofs.lemmas.List.FromFn.{length-map-range_with_len, get_or-map-range_with_len}
+use Rattle.v_tree.specs.declared.declarations.NetType.{NetType}
 use Rattle.module_scope.specs.declared.roles.Role.{Role}
+use Rattle.module_scope.specs.declared.roles.Role.TheVariants as role
 use Rattle.module_scope.specs.declared.roles.Count.{Count}
 use Rattle.module_scope.specs.declared.mentions.Occurrence.{Occurrence}
 use Rattle.module_scope.specs.declared.summaries.Summary.{Summary}
-use Rattle.module_scope.specs.Roles.{is_header, is_port, is_net, declares_net, is_declaration, makes_net, more, how_many}
+use Rattle.module_scope.specs.Roles.{is_header, is_port, declares_net, is_declaration, makes_net, direction_of, type_of, kind_of, delay_of, first_of, more, how_many}
+use Rattle.module_scope.specs.Rules.{first_range}
 use Rattle.module_scope.specs.Occurrences.{roles_at}
-use Rattle.module_scope.specs.Summaries.{summary_of, count_next, first_next, with_role, summaries_of}
+use Rattle.module_scope.specs.Summaries.{port_form, form_of, form_in, summary_of, count_next, form_next, range_next, with_role, summaries_of}
 
 -- ---- one more role
 
@@ -26,8 +30,63 @@ how_many-push is_kind (first ∷ roles) r = by (is_kind first) (is_kind r) (how_
     by true false before after same = ap more same
     by false last_is before after same = same
 
-pub find-push : (is_kind : Role → Bool) (roles : List Role) (r : Role) → find is_kind (roles ++ r ∷ []) ≡ first_next (find is_kind roles) (is_kind r) r
+option_or-assoc : {X : Type 0} (a b c : Option X) → option_or (option_or a b) c ≡ option_or a (option_or b c)
+option_or-assoc None b c = refl
+option_or-assoc (Some x) b c = refl
+
+option_or-none : {X : Type 0} (a : Option X) → option_or a None ≡ a
+option_or-none None = refl
+option_or-none (Some x) = refl
+
+pub first_of-push : {X : Type 0} (gives : Role → Option X) (roles : List Role) (r : Role) → first_of gives (roles ++ r ∷ []) ≡ option_or (first_of gives roles) (gives r)
+first_of-push gives [] r = option_or-none (gives r)
+first_of-push gives (first ∷ roles) r = ap (option_or (gives first)) (first_of-push gives roles r) ∙ sym (option_or-assoc (gives first) (first_of gives roles) (gives r))
+
+-- the first role of a kind, when one more role has come
+abbrev first_role : Option Role → Bool → Role → Option Role
+first_role first is_kind r = option_or first (cond is_kind (Some r) None)
+
+find-push : (is_kind : Role → Bool) (roles : List Role) (r : Role) → find is_kind (roles ++ r ∷ []) ≡ first_role (find is_kind roles) (is_kind r) r
 find-push is_kind roles r = find-append is_kind roles (r ∷ [])
+
+-- a form stays where it is that of a declaration
+form_stays : (x : Role) (is_kind : Bool) (r : Role) → form_of x ≡ form_next (form_of x) is_kind r
+form_stays role.Header is_kind r = refl
+form_stays (role.Port port) is_kind r = by port.net_type
+  where
+    by : (t : Option NetType) → port_form t ≡ form_next (port_form t) is_kind r
+    by None = refl
+    by (Some t) = refl
+form_stays (role.Net net) is_kind r = refl
+form_stays role.Instance is_kind r = refl
+form_stays (role.Use at select) is_kind r = refl
+
+form_in-role : (first : Option Role) (is_kind : Bool) (r : Role) → form_in (first_role first is_kind r) ≡ form_next (form_in first) is_kind r
+form_in-role None true r = refl
+form_in-role None false r = refl
+form_in-role (Some x) is_kind r = form_stays x is_kind r
+
+is_some-role : (first : Option Role) (is_kind : Bool) (r : Role) → is_some (first_role first is_kind r) ≡ (is_some first || is_kind)
+is_some-role None true r = refl
+is_some-role None false r = refl
+is_some-role (Some x) is_kind r = refl
+
+first_range-role : (first : Option Role) (r : Role) → first_range (first_role first (declares_net r) r) ≡ range_next (is_some first) (first_range first) r
+first_range-role (Some x) r = refl
+first_range-role None role.Header = refl
+first_range-role None (role.Port port) = refl
+first_range-role None (role.Net net) = refl
+first_range-role None role.Instance = refl
+first_range-role None (role.Use at select) = refl
+
+form-push : (is_kind : Role → Bool) (roles : List Role) (r : Role) → form_in (find is_kind (roles ++ r ∷ [])) ≡ form_next (form_in (find is_kind roles)) (is_kind r) r
+form-push is_kind roles r = ap form_in (find-push is_kind roles r) ∙ form_in-role (find is_kind roles) (is_kind r) r
+
+is_some-push : (is_kind : Role → Bool) (roles : List Role) (r : Role) → is_some (find is_kind (roles ++ r ∷ [])) ≡ (is_some (find is_kind roles) || is_kind r)
+is_some-push is_kind roles r = ap is_some (find-push is_kind roles r) ∙ is_some-role (find is_kind roles) (is_kind r) r
+
+range-push : (roles : List Role) (r : Role) → first_range (find declares_net (roles ++ r ∷ [])) ≡ range_next (is_some (find declares_net roles)) (first_range (find declares_net roles)) r
+range-push roles r = ap first_range (find-push declares_net roles r) ∙ first_range-role (find declares_net roles) r
 
 pub list_any-push : (is_kind : Role → Bool) (roles : List Role) (r : Role) → list_any is_kind (roles ++ r ∷ []) ≡ (list_any is_kind roles || is_kind r)
 list_any-push is_kind [] r = by (is_kind r)
@@ -47,11 +106,15 @@ summary_of-push roles r =
       how_many-push is_header roles r,
       how_many-push is_port roles r,
       how_many-push is_declaration roles r,
-      find-push is_declaration roles r,
-      find-push declares_net roles r,
-      find-push is_port roles r,
-      find-push is_net roles r,
+      form-push is_declaration roles r,
+      form-push declares_net roles r,
+      range-push roles r,
+      is_some-push declares_net roles r,
       list_any-push makes_net roles r,
+      first_of-push direction_of roles r,
+      first_of-push type_of roles r,
+      first_of-push kind_of roles r,
+      first_of-push delay_of roles r,
     ) refl
 
 -- ---- one more occurrence

@@ -1,8 +1,7 @@
 -- The one net that a name has in a module.
 use Rattle.std.specs.Prelude.{ℕ, ◌&&◌, List, map, Option, Some, None, if◌then◌else◌}
 use Rattle.std.specs.List.{find, list_any}
-use Rattle.std.specs.Option.{is_some}
-use Rattle.v_tree.specs.declared.declarations.Direction.{Direction}
+use Rattle.std.specs.Option.{is_some, unwrap_or}
 use Rattle.v_tree.specs.declared.declarations.NetType.{NetType}
 use Rattle.v_tree.specs.declared.declarations.NetType.TheVariants as net_type
 use Rattle.v_tree.specs.declared.directives.ImplicitNetType.{ImplicitNetType}
@@ -11,9 +10,8 @@ use Rattle.v_tree.specs.declared.drives.Charge.TheVariants as charge
 use Rattle.module_scope.specs.declared.roles.NetKind.{NetKind}
 use Rattle.module_scope.specs.declared.roles.NetKind.TheVariants.{Typed, Trireg}
 use Rattle.module_scope.specs.declared.roles.Role.{Role}
-use Rattle.module_scope.specs.declared.roles.Role.TheVariants as role
 use Rattle.module_scope.specs.declared.nets.ScopeNet.{ScopeNet}
-use Rattle.module_scope.specs.Roles.{is_port, is_net, declares_net, makes_net}
+use Rattle.module_scope.specs.Roles.{declares_net, makes_net, direction_of, type_of, kind_of, delay_of, first_of}
 use Rattle.module_scope.specs.Rules.{first_range}
 use Rattle.module_scope.specs.Mentions.{Mention, roles_of}
 
@@ -35,39 +33,28 @@ abbrev pub typed_kind : Option ImplicitNetType → Option NetType → NetKind
 typed_kind default None = default_kind default
 typed_kind default (Some t) = Typed t
 
--- the kind by the first direction
-abbrev pub port_kind : Option ImplicitNetType → Option Role → NetKind
-port_kind default (Some (role.Port port)) = typed_kind default port.net_type
-port_kind default other = default_kind default
-
--- the kind by the first declaration of the net, else by the first direction
-abbrev pub declared_kind : Option ImplicitNetType → Option Role → Option Role → NetKind
-declared_kind default port (Some (role.Net net)) = net.kind
-declared_kind default port other = port_kind default port
-
--- the direction, where there is one
-abbrev pub direction_of : Option Role → Option Direction
-direction_of (Some (role.Port port)) = Some port.direction
-direction_of other = None
-
--- the index of the item that has the delay of the net, where there is one
-abbrev pub delay_of : Option Role → Option ℕ
-delay_of (Some (role.Net net)) = net.delay
-delay_of other = None
-
--- a net by its first declaration, its first direction, and the first declaration of it as a net
-abbrev pub declared_net : Option ImplicitNetType → Option Role → Option Role → Option Role → ScopeNet
-declared_net default first port net = record { direction = direction_of port; kind = declared_kind default port net; range = first_range first; delay = delay_of net }
+-- the kind that a declaration of the net gives, else the type of its direction, else the default
+abbrev pub declared_kind : Option ImplicitNetType → Option NetKind → Option NetType → NetKind
+declared_kind default net_kind port_type = unwrap_or net_kind (typed_kind default port_type)
 
 -- a net that no declaration of the module declares
 abbrev pub implicit_net : Option ImplicitNetType → ScopeNet
 implicit_net default = record { direction = None; kind = default_kind default; range = None; delay = None }
 
+-- a net that is declared, by the first that gives its direction, its kind and its delay, and by the range of its first declaration
+abbrev pub declared_net : Option ImplicitNetType → List Role → ScopeNet
+declared_net default roles = record {
+  direction = first_of direction_of roles;
+  kind = declared_kind default (first_of kind_of roles) (first_of type_of roles);
+  range = first_range (find declares_net roles);
+  delay = first_of delay_of roles;
+}
+
 -- the net of a name, by what the module says of the name: the one that is declared, else an implicit one where a use makes it
 abbrev pub net_of : Option ImplicitNetType → List Role → Option ScopeNet
 net_of default roles =
     if is_some (find declares_net roles)
-    then Some (declared_net default (find declares_net roles) (find is_port roles) (find is_net roles))
+    then Some (declared_net default roles)
     else (if is_some default && list_any makes_net roles then Some (implicit_net default) else None)
 
 -- the net of each name, in the order of the names

@@ -1,6 +1,10 @@
 -- What the mentions of a name say of it, told apart.
-use Rattle.std.specs.Prelude.{Bool, true, false, ◌||◌, List, [], ◌∷◌, Option, None, if◌then◌else◌}
+use Rattle.std.specs.Prelude.{ℕ, Bool, true, false, ◌||◌, List, [], ◌∷◌, Option, Some, None, if◌then◌else◌}
+use Rattle.std.specs.Option.{option_or}
+use Rattle.v_tree.specs.declared.declarations.Direction.{Direction}
+use Rattle.v_tree.specs.declared.declarations.NetType.{NetType}
 use Rattle.v_tree.specs.declared.expressions.RangeBounds.{RangeBounds}
+use Rattle.module_scope.specs.declared.roles.NetKind.{NetKind}
 use Rattle.module_scope.specs.declared.roles.Side.{Side}
 use Rattle.module_scope.specs.declared.roles.Side.TheVariants as side
 use Rattle.module_scope.specs.declared.roles.Role.{Role}
@@ -56,6 +60,31 @@ abbrev pub range_of : Role → Option RangeBounds
 range_of (role.Port port) = port.range
 range_of (role.Net net) = net.range
 range_of other = None
+
+-- the direction, where it is declared
+abbrev pub direction_of : Role → Option Direction
+direction_of (role.Port port) = Some port.direction
+direction_of other = None
+
+-- the net type that is declared with a direction
+abbrev pub type_of : Role → Option NetType
+type_of (role.Port port) = port.net_type
+type_of other = None
+
+-- the kind of a net that is declared
+abbrev pub kind_of : Role → Option NetKind
+kind_of (role.Net net) = Some net.kind
+kind_of other = None
+
+-- the index of the item that has the delay of a net that is declared
+abbrev pub delay_of : Role → Option ℕ
+delay_of (role.Net net) = net.delay
+delay_of other = None
+
+-- what is given by the first of the roles that gives something
+abbrev pub first_of : {X : Type 0} → (Role → Option X) → List Role → Option X
+first_of gives [] = None
+first_of gives (r ∷ roles) = option_or (gives r) (first_of gives roles)
 
 -- one more
 abbrev pub more : Count → Count

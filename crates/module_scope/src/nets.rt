@@ -1,16 +1,15 @@
 //! The one net that a name has in a module.
 ghost use Rattle.std.specs.Prelude.{◌≡◌, map, IfOk};
-ghost use Rattle.module_scope.specs.Nets.{default_kind, typed_kind, port_kind, declared_kind, direction_of, delay_of, declared_net, implicit_net};
+ghost use Rattle.module_scope.specs.Nets.{default_kind, typed_kind, declared_kind, implicit_net};
 ghost use Rattle.module_scope.specs.Summaries.{summary_net};
 
-use crate::roles::{NetKind, Role};
-use crate::rules::first_range;
+use crate::roles::NetKind;
 use crate::summaries::Summary;
 use std::alloc::{AllocError, Global};
 use v_tree::{Charge, Direction, ImplicitNetType, NetType, RangeBounds};
 
-/// A net of a module: its direction where it is a port, its kind, its range where it is a vector, and
-/// the index of the module's item that has its delay, where it has one.
+/// A net of a module: its direction where it is a port, its kind, its range where it is a vector,
+/// and the index of the module's item that has its delay, where it has one.
 #[derive(Clone, Copy, Debug, PartialEq, Eq)]
 pub struct ScopeNet {
     pub direction: Option<Direction>,
@@ -19,8 +18,8 @@ pub struct ScopeNet {
     pub delay: Option<usize>,
 }
 
-/// The kind of implicit nets, and of ports without a net type. An implicit trireg has a medium charge,
-/// and where there are no implicit nets such a port is a wire (IEEE 1364-2005, 19.2).
+/// The kind of implicit nets, and of ports without a net type. An implicit trireg has a medium
+/// charge, and where there are no implicit nets such a port is a wire (IEEE 1364-2005, 19.2).
 fn default_kind(default: Option<ImplicitNetType>) -> NetKind
     ensures { result ≡ default_kind default }
 {
@@ -47,56 +46,15 @@ fn typed_kind(default: Option<ImplicitNetType>, net_type: Option<NetType>) -> Ne
     }
 }
 
-/// The kind by the first direction.
-fn port_kind(default: Option<ImplicitNetType>, port: Option<Role>) -> NetKind
-    ensures { result ≡ port_kind default port }
+/// The kind that a declaration of the net gives, else the type of its direction, else the default.
+fn declared_kind(
+    default: Option<ImplicitNetType>,
+    net_kind: Option<NetKind>,
+    port_type: Option<NetType>,
+) -> NetKind
+    ensures { result ≡ declared_kind default net_kind port_type }
 {
-    match port {
-        Some(Role::Port(port)) => typed_kind(default, port.net_type),
-        _ => default_kind(default),
-    }
-}
-
-/// The kind by the first declaration of the net, else by the first direction.
-fn declared_kind(default: Option<ImplicitNetType>, port: Option<Role>, net: Option<Role>) -> NetKind
-    ensures { result ≡ declared_kind default port net }
-{
-    match net {
-        Some(Role::Net(net)) => net.kind,
-        _ => port_kind(default, port),
-    }
-}
-
-/// The direction, where there is one.
-fn direction_of(port: Option<Role>) -> Option<Direction>
-    ensures { result ≡ direction_of port }
-{
-    match port {
-        Some(Role::Port(port)) => Some(port.direction),
-        _ => None,
-    }
-}
-
-/// The index of the item that has the delay of the net, where there is one.
-fn delay_of(net: Option<Role>) -> Option<usize>
-    ensures { result ≡ delay_of net }
-{
-    match net {
-        Some(Role::Net(net)) => net.delay,
-        _ => None,
-    }
-}
-
-/// A net that is declared.
-fn declared_net(default: Option<ImplicitNetType>, summary: &Summary) -> ScopeNet
-    ensures { result ≡ declared_net default summary.now.first_declared summary.now.first_port summary.now.first_net }
-{
-    ScopeNet {
-        direction: direction_of(summary.first_port),
-        kind: declared_kind(default, summary.first_port, summary.first_net),
-        range: first_range(summary.first_declared),
-        delay: delay_of(summary.first_net),
-    }
+    net_kind.unwrap_or(typed_kind(default, port_type))
 }
 
 /// A net that isn't declared.
@@ -115,8 +73,13 @@ fn implicit_net(default: Option<ImplicitNetType>) -> ScopeNet
 fn net_of(default: Option<ImplicitNetType>, summary: &Summary) -> Option<ScopeNet>
     ensures { result ≡ summary_net default summary.now }
 {
-    if summary.first_declared.is_some() {
-        Some(declared_net(default, summary))
+    if summary.is_declared {
+        Some(ScopeNet {
+            direction: summary.direction,
+            kind: declared_kind(default, summary.net_kind, summary.port_type),
+            range: summary.range,
+            delay: summary.delay,
+        })
     } else if default.is_some() && summary.makes_net {
         Some(implicit_net(default))
     } else {

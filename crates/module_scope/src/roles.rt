@@ -1,6 +1,6 @@
 //! What a mention of a name says of it.
 ghost use Rattle.std.specs.Prelude.{◌≡◌};
-ghost use Rattle.module_scope.specs.Roles.{is_header, is_port, is_net, is_instance, declares_net, is_declaration, is_value, takes_implicit, makes_net, more, is_zero, is_one, is_several};
+ghost use Rattle.module_scope.specs.Roles.{is_header, is_port, is_net, is_instance, declares_net, is_declaration, is_value, takes_implicit, makes_net, range_of, direction_of, type_of, kind_of, delay_of, more, is_zero, is_one, is_several};
 
 use v_tree::{Charge, Direction, NetType, RangeBounds, Select};
 
@@ -157,6 +157,57 @@ impl Role {
         match self {
             Role::Use(side, None) => side.takes_implicit(),
             _ => false,
+        }
+    }
+
+    /// The range that a declaration gives.
+    pub fn range(self) -> Option<RangeBounds>
+        ensures { result ≡ range_of self }
+    {
+        match self {
+            Role::Port(port) => port.range,
+            Role::Net(net) => net.range,
+            _ => None,
+        }
+    }
+
+    /// The direction, where it is declared.
+    pub fn direction(self) -> Option<Direction>
+        ensures { result ≡ direction_of self }
+    {
+        match self {
+            Role::Port(port) => Some(port.direction),
+            _ => None,
+        }
+    }
+
+    /// The net type that is declared with a direction.
+    pub fn port_type(self) -> Option<NetType>
+        ensures { result ≡ type_of self }
+    {
+        match self {
+            Role::Port(port) => port.net_type,
+            _ => None,
+        }
+    }
+
+    /// The kind of a net that is declared.
+    pub fn net_kind(self) -> Option<NetKind>
+        ensures { result ≡ kind_of self }
+    {
+        match self {
+            Role::Net(net) => Some(net.kind),
+            _ => None,
+        }
+    }
+
+    /// The index of the item that has the delay of a net that is declared.
+    pub fn delay(self) -> Option<usize>
+        ensures { result ≡ delay_of self }
+    {
+        match self {
+            Role::Net(net) => net.delay,
+            _ => None,
         }
     }
 }

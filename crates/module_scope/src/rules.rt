@@ -1,11 +1,10 @@
 //! The rules on names, each judged from summaries.
 ghost use Rattle.std.specs.Prelude.{◌≡◌, ℕ};
-ghost use Rattle.module_scope.specs.Rules.{is_pair, completes, repeats, is_part, is_within, first_range, same_bounds, same_range, differs, differs_from};
-ghost use Rattle.module_scope.specs.Roles.{range_of};
-ghost use Rattle.module_scope.specs.Summaries.{summary_breaks_ports, summary_makes_implicit, summary_has_implicit, summary_names_net, summary_breaks_repeated, summary_breaks_undeclared, summary_breaks_implicit, summary_breaks_selects, summary_breaks};
+ghost use Rattle.module_scope.specs.Rules.{is_part, is_within, same_range};
+ghost use Rattle.module_scope.specs.Summaries.{form_completes, form_repeats, form_differs, summary_breaks_ports, summary_makes_implicit, summary_has_implicit, summary_names_net, summary_breaks_repeated, summary_breaks_undeclared, summary_breaks_implicit, summary_breaks_selects, summary_breaks};
 
 use crate::roles::{Count, Role};
-use crate::summaries::Summary;
+use crate::summaries::{DeclarationForm, Summary};
 use v_tree::{RangeBounds, Select};
 
 /// The rules on the names of a module.
@@ -46,45 +45,42 @@ fn breaks_ports(all: &Summary, before: &Summary, role: Role) -> bool
 fn makes_implicit(makes: bool, all: &Summary, before: &Summary, role: Role) -> bool
     ensures { result ≡ summary_makes_implicit makes all.now before.now role }
 {
-    makes && all.first_declared.is_none() && role.makes_net() && !before.makes_net
+    makes && !all.is_declared && role.makes_net() && !before.makes_net
 }
 
 /// Whether an implicit net was made before.
 fn has_implicit(makes: bool, all: &Summary, before: &Summary) -> bool
     ensures { result ≡ summary_has_implicit makes all.now before.now }
 {
-    makes && all.first_declared.is_none() && before.makes_net
+    makes && !all.is_declared && before.makes_net
 }
 
 /// Whether a name is that of a net.
 fn names_net(makes: bool, all: &Summary, before: &Summary) -> bool
     ensures { result ≡ summary_names_net makes all.now before.now }
 {
-    all.first_declared.is_some() || has_implicit(makes, all, before)
+    all.is_declared || has_implicit(makes, all, before)
 }
 
-/// Whether two roles are a direction without a net type and a declaration of the net.
-fn is_pair(first: Role, second: Role) -> bool
-    ensures { result ≡ is_pair first second }
+/// Whether a declaration of this form and a role are a direction without a net type and a declaration
+/// of the net.
+fn completes(first: DeclarationForm, role: Role) -> bool
+    ensures { result ≡ form_completes first role }
 {
-    match (first, second) {
-        (Role::Port(port), Role::Net(_)) | (Role::Net(_), Role::Port(port)) => {
-            port.net_type.is_none()
-        }
+    match (first, role) {
+        (DeclarationForm::Direction, _) => role.is_net(),
+        (DeclarationForm::Net, Role::Port(port)) => port.net_type.is_none(),
         _ => false,
     }
 }
 
-/// Whether a declaration, behind others, declares its name once more.
-fn repeats(count: Count, first: Option<Role>, role: Role) -> bool
-    ensures { result ≡ repeats count first role }
+/// Whether a declaration, behind others of which the first has this form, declares its name once more.
+fn repeats(count: Count, first: DeclarationForm, role: Role) -> bool
+    ensures { result ≡ form_repeats count first role }
 {
     match count {
         Count::Zero => false,
-        Count::One => match first {
-            Some(first) => !is_pair(first, role),
-            None => true,
-        },
+        Count::One => !completes(first, role),
         Count::Several => true,
     }
 }
@@ -95,7 +91,7 @@ fn breaks_repeated(makes: bool, all: &Summary, before: &Summary, role: Role) -> 
 {
     if role.is_declaration() {
         has_implicit(makes, all, before)
-            || repeats(before.declarations, before.first_declaration, role)
+            || repeats(before.declarations, before.declaration_form, role)
     } else {
         makes_implicit(makes, all, before, role) && !before.declarations.is_zero()
     }
@@ -118,7 +114,7 @@ fn breaks_implicit(makes: bool, all: &Summary, role: Role) -> bool
     ensures { result ≡ summary_breaks_implicit makes all.now role }
 {
     match role {
-        Role::Use(side, _) => !makes && side.takes_implicit() && all.first_declared.is_none(),
+        Role::Use(side, _) => !makes && side.takes_implicit() && !all.is_declared,
         _ => false,
     }
 }
@@ -141,34 +137,13 @@ fn is_within(select: Select, range: Option<RangeBounds>) -> bool
     }
 }
 
-/// The range that a declaration gives.
-fn range_of(role: Role) -> Option<RangeBounds>
-    ensures { result ≡ range_of role }
-{
-    match role {
-        Role::Port(port) => port.range,
-        Role::Net(net) => net.range,
-        _ => None,
-    }
-}
-
-/// The range that the first declaration of a net gives.
-pub fn first_range(first: Option<Role>) -> Option<RangeBounds>
-    ensures { result ≡ first_range first }
-{
-    match first {
-        Some(role) => range_of(role),
-        None => None,
-    }
-}
-
 /// Whether a mention breaks the rule on selects.
 fn breaks_selects(makes: bool, all: &Summary, before: &Summary, role: Role) -> bool
     ensures { result ≡ summary_breaks_selects makes all.now before.now role }
 {
     match role {
         Role::Use(_, Some(select)) => {
-            names_net(makes, all, before) && !is_within(select, first_range(all.first_declared))
+            names_net(makes, all, before) && !is_within(select, all.range)
         }
         _ => false,
     }
@@ -185,24 +160,17 @@ fn same_range(a: Option<RangeBounds>, b: Option<RangeBounds>) -> bool
     }
 }
 
-/// Whether two roles are a direction and a declaration of the net with different ranges.
-fn differs(first: Role, second: Role) -> bool
-    ensures { result ≡ differs first second }
+/// Whether a declaration of this form and range, and a role, are a direction and a declaration of the
+/// net with different ranges.
+fn differs(first: DeclarationForm, range: Option<RangeBounds>, role: Role) -> bool
+    ensures { result ≡ form_differs first range role }
 {
-    match (first, second) {
-        (Role::Port(port), Role::Net(net)) => !same_range(port.range, net.range),
-        (Role::Net(net), Role::Port(port)) => !same_range(net.range, port.range),
+    match (first, role) {
+        (DeclarationForm::Net, Role::Port(port)) => !same_range(range, port.range),
+        (DeclarationForm::Direction | DeclarationForm::TypedDirection, Role::Net(net)) => {
+            !same_range(range, net.range)
+        }
         _ => false,
-    }
-}
-
-/// Whether a mention breaks the rule on the ranges of a port.
-fn breaks_ranges(before: &Summary, role: Role) -> bool
-    ensures { result ≡ differs_from before.now.first_declared role }
-{
-    match before.first_declared {
-        Some(first) => differs(first, role),
-        None => false,
     }
 }
 
@@ -216,7 +184,7 @@ pub fn breaks(rule: NameRule, makes: bool, all: &Summary, before: &Summary, role
         NameRule::Repeated => breaks_repeated(makes, all, before, role),
         NameRule::Undeclared => breaks_undeclared(makes, all, before, role),
         NameRule::Selects => breaks_selects(makes, all, before, role),
-        NameRule::Ranges => breaks_ranges(before, role),
+        NameRule::Ranges => differs(before.net_form, before.range, role),
         NameRule::Implicit => breaks_implicit(makes, all, role),
     }
 }
