@@ -1,0 +1,4 @@
+pub mod Rules
+pub mod Reached
+pub mod Scopes
+pub mod Walks
