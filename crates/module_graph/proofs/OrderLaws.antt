@@ -1,9 +1,8 @@
 -- Positions in order settle that references to modules that have one don't lead back.
-use Rattle.std.proofs.Common.{◌≡◌, ℕ, zero, suc, ◌+◌, ◌<◌, Bool, true, false, not, ◌||◌, ◌&&◌, eqb, ltb, List, [], ◌∷◌, ◌++◌, length, get_or, None, refl, sym, ap, subst, ◌∙◌, zero-add, add-zero, arith, inl, inr}
+use Rattle.std.proofs.Common.{◌≡◌, ℕ, zero, suc, ◌<◌, Bool, true, false, not, ◌||◌, ◌&&◌, eqb, ltb, List, [], ◌∷◌, length, get_or, sym, ap, subst, ◌∙◌, zero-add, arith, inl, inr}
 use Rattle.std.specs.List.{list_all, list_any, enumerate_from}
-use Rattle.std.proofs.lemmas.Bool.{and_parts, or_cases, ltb-true, eqb-true, false_from_ne_true, or_left, or_right, eq-eqb}
+use Rattle.std.proofs.lemmas.Bool.{and_parts, or_cases, ltb-true, eqb-true, false_from_ne_true, or_left, or_right}
 use Rattle.std.proofs.lemmas.List.FromFn.{length-enumerate_from, get_or-enumerate_from}
-use Rattle.v_tree.specs.declared.locations.Location.{Location}
 use Rattle.module_graph.specs.declared.references.Master.{Master}
 use Rattle.module_graph.specs.declared.references.Master.TheVariants.{Module, Udp, Unknown}
 use Rattle.module_graph.specs.declared.references.Reference.{Reference}

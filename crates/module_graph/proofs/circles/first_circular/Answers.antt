@@ -1,4 +1,4 @@
-use Rattle.std.proofs.Common.{◌≡◌, List, ℕ, sym, subst, ◌∙◌}
+use Rattle.std.proofs.Common.{List, ℕ, sym, subst, ◌∙◌}
 use Rattle.module_graph.specs.Order.{IsSettled}
 use Rattle.module_graph.proofs.OrderLaws.{IsSettled-order}
 use Rattle.module_graph.proofs.circles.first_circular.Goals as goal
