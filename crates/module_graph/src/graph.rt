@@ -127,8 +127,9 @@ impl ModuleGraph {
     /// The first reference of a reached module to a module from which that module is reached again, None
     /// where there is none.
     ///
-    /// It takes time in proportion to the references where there is none and what is reached is closed
-    /// under references. Else it may take that for each reference.
+    /// Where no reached module leads to itself, and what is reached is closed under references, it takes
+    /// time in proportion to these. Else it may take that for each reference to a module that a circle
+    /// leads to, up to the first that leads back.
     pub fn circular_reference(
         &self,
         alloc: Global,

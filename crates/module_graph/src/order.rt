@@ -1,29 +1,39 @@
-//! An order of the modules in which each stands before those that it instantiates.
+//! Positions of the modules, from 1 up, by which a module stands behind all that instantiate it. A module
+//! that a circle leads to has none, which is told by 0.
 ghost use Rattle.std.specs.Prelude.{◌≡◌, slice_index};
-ghost use Rattle.module_graph.specs.Order.{are_later, is_in_order, is_later};
+ghost use Rattle.module_graph.specs.Order.{are_later, is_behind, is_in_order, is_later};
 
+use crate::reach::is_reached;
 use crate::references::{Master, Reference, ReferenceList};
-use crate::unknown::is_reached;
 use std::alloc::{AllocError, Global};
 
-/// The number at an index, and 0 past the end.
-fn number_of(numbers: &[usize], module: usize) -> usize
-    ensures { result ≡ slice_index numbers.now «module» }
+/// The position of a module, 0 where it has none.
+pub(crate) fn position_of(positions: &[usize], module: usize) -> usize
+    ensures { result ≡ slice_index positions.now «module» }
 {
-    if module < numbers.len() {
-        numbers[module]
+    if module < positions.len() {
+        positions[module]
     } else {
         0
     }
 }
 
-/// Whether the module that a reference is to is reached, and stands behind another.
+/// Whether a position is none, or behind another that is one.
+fn is_behind(before: usize, position: usize) -> bool
+    ensures { result ≡ is_behind before position }
+{
+    position == 0 || (0 < before && before < position)
+}
+
+/// Whether the module that a reference is to is reached, and has no position or one behind that of the
+/// module that has the reference.
 fn is_later(positions: &[usize], reached: &[bool], module: usize, reference: &Reference) -> bool
     ensures { result ≡ is_later positions.now reached.now «module» reference.now }
 {
     match reference.master {
         Master::Module(other) => {
-            is_reached(reached, other) && number_of(positions, module) < number_of(positions, other)
+            let before = position_of(positions, module);
+            is_reached(reached, other) && is_behind(before, position_of(positions, other))
         }
         Master::Udp(_) | Master::Unknown => true,
     }
@@ -36,7 +46,8 @@ fn are_later(positions: &[usize], reached: &[bool], module: usize, references: &
     references.iter().all(|reference| is_later(positions, reached, module, reference))
 }
 
-/// Whether each reached module stands before those that it instantiates, which are reached too.
+/// Whether all modules that reached modules instantiate are reached, and those of them that have a
+/// position stand behind all that instantiate them.
 pub(crate) fn is_in_order(
     positions: &[usize],
     reached: &[bool],
@@ -146,8 +157,8 @@ fn put_position(
     Ok(())
 }
 
-/// Positions of the modules such that each reached module stands before those that it instantiates,
-/// where there are such (Kahn's order). Nothing is promised of them: `is_in_order` judges them.
+/// Positions of the reached modules by Kahn's order, without those that a circle leads to. Nothing is
+/// promised of them: `is_in_order` judges them.
 pub(crate) fn positions_of(
     alloc: Global,
     reached: &[bool],
@@ -164,7 +175,7 @@ pub(crate) fn positions_of(
                 &mut ready,
                 references,
                 module,
-                position,
+                position + 1,
             )?,
             None => return Ok(positions),
         }

@@ -1,5 +1,5 @@
 //! The modules that a module leads to.
-ghost use Rattle.std.specs.Prelude.{◌≡◌, [], ◌∷◌, IfOk, OnOk};
+ghost use Rattle.std.specs.Prelude.{◌≡◌, [], ◌∷◌, false, slice_index_or, IfOk, OnOk};
 ghost use Rattle.module_graph.specs.Reach.{reached_modules};
 ghost use Rattle.module_graph.specs.Searches.{Found, Followed, IsStart};
 
@@ -72,4 +72,11 @@ pub(crate) fn reached_from(
         follow(&mut search, references[module].as_slice())?;
     }
     Ok(search.reached)
+}
+
+/// Whether a module is reached.
+pub(crate) fn is_reached(reached: &[bool], module: usize) -> bool
+    ensures { result ≡ slice_index_or reached.now «module» false }
+{
+    module < reached.len() && reached[module]
 }

@@ -174,20 +174,20 @@ fn the_later_of_two_names_is_repeated(rt: HostRuntime) -> Result<(), Fail> {
     Ok(())
 }
 
-/// A graph of a chain of modules without names, each with one reference, to the next. The reference of
-/// the last is to this master.
-fn chain(alloc: Global, count: usize, last: Master) -> Result<ModuleGraph, AllocError> {
+/// A graph of a chain of modules without names, each with one reference, to the next, at the token of
+/// its own index. The reference of the last is to this master.
+fn chain(alloc: Global, count: u32, last: Master) -> Result<ModuleGraph, AllocError> {
     let mut lists = Items::new(alloc);
     let mut names = Vec::new(alloc);
     for index in 0..count {
         names.push(Bytes::from_vec(Vec::new(alloc)))?;
         let master = if index + 1 < count {
-            Master::Module(index + 1)
+            Master::Module(index as usize + 1)
         } else {
             last
         };
         let mut list = Items::new(alloc);
-        list.push(reference(7, master))?;
+        list.push(reference(index, master))?;
         lists.push(list)?;
     }
     ModuleGraph::from_lists(alloc, NameList::from_vec(names), lists)
@@ -199,7 +199,7 @@ fn a_long_chain_is_walked(rt: HostRuntime) -> Result<(), Fail> {
     assert_eq!(rt; graph.top(None), Some(0));
     let reached = graph.reached(rt.alloc(), 0)?;
     assert!(rt; reached.as_slice().iter().all(|found| *found));
-    assert_eq!(rt; graph.unknown_master(reached.as_slice()), Some(at(7)));
+    assert_eq!(rt; graph.unknown_master(reached.as_slice()), Some(at(99_999)));
     assert_eq!(rt;
         graph.circular_reference(rt.alloc(), reached.as_slice())?,
         None
@@ -208,13 +208,20 @@ fn a_long_chain_is_walked(rt: HostRuntime) -> Result<(), Fail> {
 }
 
 #[test]
-fn a_long_circle_has_no_top(rt: HostRuntime) -> Result<(), Fail> {
-    let graph = chain(rt.alloc(), 10_000, Master::Module(0))?;
-    assert_eq!(rt; graph.top(None), None);
-    let reached = graph.reached(rt.alloc(), 9_999)?;
+fn a_circle_is_found_at_its_first_place(rt: HostRuntime) -> Result<(), Fail> {
+    let whole = chain(rt.alloc(), 10_000, Master::Module(0))?;
+    assert_eq!(rt; whole.top(None), None);
+    let reached = whole.reached(rt.alloc(), 5_000)?;
     assert_eq!(rt;
-        graph.circular_reference(rt.alloc(), reached.as_slice())?,
-        Some(at(7))
+        whole.circular_reference(rt.alloc(), reached.as_slice())?,
+        Some(at(0))
+    );
+
+    let end = chain(rt.alloc(), 10_000, Master::Module(9_997))?;
+    let reached = end.reached(rt.alloc(), 0)?;
+    assert_eq!(rt;
+        end.circular_reference(rt.alloc(), reached.as_slice())?,
+        Some(at(9_997))
     );
     Ok(())
 }

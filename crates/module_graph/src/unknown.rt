@@ -1,18 +1,12 @@
 //! References to neither a module nor a primitive.
-ghost use Rattle.std.specs.Prelude.{◌≡◌, false, slice_index_or};
+ghost use Rattle.std.specs.Prelude.{◌≡◌};
 ghost use Rattle.module_graph.specs.Rules.{is_unknown, places_in, reached_places};
 ghost use Rattle.rule_places.specs.Places.{first_place, places_where};
 
+use crate::reach::is_reached;
 use crate::references::{Master, Reference, ReferenceList};
 use rule_places::earliest;
 use v_tree::Location;
-
-/// Whether a module is reached.
-pub(crate) fn is_reached(reached: &[bool], module: usize) -> bool
-    ensures { result ≡ slice_index_or reached.now «module» false }
-{
-    module < reached.len() && reached[module]
-}
 
 /// Whether a master is neither a module nor a primitive.
 fn is_unknown(master: Master) -> bool

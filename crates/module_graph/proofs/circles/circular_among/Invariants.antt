@@ -2,7 +2,7 @@ use Rattle.std.proofs.Common.{◌≡◌, drop}
 use Rattle.std.specs.List.{flat_map, enumerate_from}
 use Rattle.rule_places.specs.Places.{earliest, first_place}
 use Rattle.module_graph.specs.Rules.{leads_back, places_in, reached_places}
-use Rattle.module_graph.proofs.circles.exact_circular.Given as goal
+use Rattle.module_graph.proofs.circles.circular_among.Given as goal
 
 abbrev pub invariant-loop-module : goal.invariant-loop-module
 invariant-loop-module l =

@@ -5,7 +5,7 @@ use Rattle.v_tree.specs.declared.locations.Location.{Location}
 use Rattle.rule_places.specs.Places.{earliest, first_place}
 use Rattle.rule_places.proofs.PlaceSteps.{enumerate_step}
 use Rattle.module_graph.specs.Rules.{leads_back, places_in, reached_places}
-use Rattle.module_graph.proofs.circles.exact_circular.Goals as goal
+use Rattle.module_graph.proofs.circles.circular_among.Goals as goal
 
 pub loop-module-preserved : goal.loop-module-preserved
 loop-module-preserved c =
