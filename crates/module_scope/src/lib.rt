@@ -15,7 +15,7 @@ mod summaries;
 
 pub use nets::ScopeNet;
 pub use places::ScopePlaces;
-pub use roles::{NetKind, NetRole, PortRole, Role, Side};
+pub use roles::NetKind;
 pub use scopes::Scope;
 
 #[cfg(test)]
