@@ -1,3 +1,4 @@
+//! The scopes of a file under a choice of its top.
 ghost use Rattle.std.specs.Prelude.{◌≡◌, ◌≤◌, length, map, replicate, IfOk, false};
 ghost use Rattle.std.specs.Option.{option_copied};
 ghost use Rattle.rule_places.specs.Places.{first_place};
