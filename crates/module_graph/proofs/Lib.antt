@@ -5,3 +5,4 @@ pub mod ReachLaws
 pub mod SearchLaws
 pub mod TopLaws
 pub mod OrderLaws
+pub mod MarkLaws

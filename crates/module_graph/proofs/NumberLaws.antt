@@ -89,9 +89,6 @@ one_index q name names k e f =
 module _ (names : List (List ℕ)) (numbers : List ℕ) (whole : length numbers ≡ length names) (name : List ℕ) (number : ℕ) (q : List ℕ) where
   -- under a name that is there
   module _ (k : ℕ) (found : index_of name names ≡ Some k) where
-    old_number : ℕ
-    old_number = get_or numbers k 0
-
     same_case : q ≡ name → number_at (lowered numbers k number) (index_of q names) ≡ lesser (number_at numbers (index_of q names)) (Some number)
     same_case same =
         let at : index_of q names ≡ Some k = ap (λ (n : List ℕ). index_of n names) same ∙ found in

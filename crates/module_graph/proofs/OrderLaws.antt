@@ -1,7 +1,7 @@
 -- Positions in order settle that references to modules that have one don't lead back.
 use Rattle.std.proofs.Common.{◌≡◌, ℕ, zero, suc, ◌<◌, Bool, true, false, not, ◌||◌, ◌&&◌, eqb, ltb, List, [], ◌∷◌, length, get_or, sym, ap, subst, ◌∙◌, zero-add, arith, inl, inr}
-use Rattle.std.specs.List.{list_all, list_any, enumerate_from}
-use Rattle.std.proofs.lemmas.Bool.{and_parts, or_cases, ltb-true, eqb-true, false_from_ne_true, or_left, or_right}
+use Rattle.std.specs.List.{list_all, enumerate_from}
+use Rattle.std.proofs.lemmas.Bool.{and_parts, or_cases, ltb-true, eqb-true, false_from_ne_true}
 use Rattle.std.proofs.lemmas.List.FromFn.{length-enumerate_from, get_or-enumerate_from}
 use Rattle.module_graph.specs.declared.references.Master.{Master}
 use Rattle.module_graph.specs.declared.references.Master.TheVariants.{Module, Udp, Unknown}
@@ -15,19 +15,6 @@ list_all_at : {X : Type 0} (test : X → Bool) (xs : List X) (i : ℕ) (d : X) �
 list_all_at test [] i d e lt = absurd (omega arith)
 list_all_at test (x ∷ xs) zero d e lt = (and_parts (test x) (list_all test xs) e).0
 list_all_at test (x ∷ xs) (suc i) d e lt = list_all_at test xs i d (and_parts (test x) (list_all test xs) e).1 (omega arith)
-
-list_any_at : {X : Type 0} (test : X → Bool) (xs : List X) (i : ℕ) (d : X) → i < length xs → test (get_or xs i d) ≡ true → list_any test xs ≡ true
-list_any_at test [] i d lt e = absurd (omega arith)
-list_any_at test (x ∷ xs) zero d lt e = or_left (test x) (list_any test xs) e
-list_any_at test (x ∷ xs) (suc i) d lt e = or_right (test x) (list_any test xs) (list_any_at test xs i d (omega arith) e)
-
--- a list refers to the masters of its references
-pub refers_to_at : (list : List Reference) (i : ℕ) (d : Reference) (b : ℕ) → i < length list → is_module b (get_or list i d).master ≡ true → refers_to b list ≡ true
-refers_to_at list i d b lt e = list_any_at (λ (r : Reference). is_module b r.master) list i d lt e
-
--- without positions nothing is settled
-pub IsSettled-none : (reached : List Bool) (rs : List (List Reference)) → IsSettled [] reached rs
-IsSettled-none reached rs a b here e placed = absurd (omega arith)
 
 module _ (positions : List ℕ) (reached : List Bool) (rs : List (List Reference)) where
   -- the second module is reached, and where it has a position the first has one before it

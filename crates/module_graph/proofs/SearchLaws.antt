@@ -1,7 +1,7 @@
 -- A search, step by step.
-use Rattle.std.proofs.Common.{◌≡◌, ℕ, ◌+◌, ◌<◌, Bool, true, false, not, cond, ◌||◌, List, [], ◌∷◌, ◌++◌, length, length-append, get_or, set, take, replicate, eqb, refl, sym, ap, subst, ◌∙◌, arith, inl, inr, ◌⊎◌}
+use Rattle.std.proofs.Common.{◌≡◌, ℕ, ◌+◌, ◌<◌, Bool, true, false, not, cond, List, [], ◌∷◌, ◌++◌, length, length-append, get_or, set, take, replicate, refl, sym, ap, subst, ◌∙◌, arith, inl, inr, ◌⊎◌}
 use Rattle.std.specs.List.{count_by, Contains}
-use Rattle.std.proofs.lemmas.Bool.{cases_lt, cases_eq, or_cases, or_left, or_right, eqb-true, eq-eqb, false≢true}
+use Rattle.std.proofs.lemmas.Bool.{cases_lt, cases_eq, or_cases, or_left, or_right, false≢true}
 use Rattle.std.proofs.lemmas.List.{get_or_past, get_or-set_same, get_or-set_other, length-set, ext_get_or, take_more, get_or-replicate, length-replicate}
 use Rattle.std.proofs.lemmas.List.Elements.{Contains-append_left, Contains-push, Contains-push_cases}
 use Rattle.std.proofs.lemmas.List.Folds.{list_any-append}
@@ -15,18 +15,6 @@ use Rattle.module_graph.specs.Searches.{IsFound, work_left, IsStart, Found, Foll
 use Rattle.module_graph.proofs.ReachLaws.{LeadsTo_within, is_reached_top, is_reached_cases, is_reached_on}
 
 -- ---- one module
-
--- a module that was found before, or isn't there
-pub Found-same : (index : ℕ) (s : Search) → (index < length s.reached → IsFound s index) → Found index s s
-Found-same index s there = record {
-  same_length = refl;
-  keeps = λ k found. found;
-  waits = λ k h. h;
-  new = λ k found. inl found;
-  waiting = λ k h. inl h;
-  there = there;
-  same_left = refl;
-}
 
 module _ (index : ℕ) (s t : Search) (lt : index < length s.reached) (unfound : get_or s.reached index false ≡ false)
     (reached : t.reached ≡ set s.reached index true) (waiting : t.waiting ≡ s.waiting ++ index ∷ []) where
@@ -89,42 +77,6 @@ Followed-none s = record {
   waiting = λ k h. inl h;
   there = λ k none lt. absurd (false≢true none);
   same_left = refl;
-}
-
--- a reference to no module
-pub Followed-other : (r : Reference) (s : Search) → ((k : ℕ) → is_module k r.master ≡ false) → Followed (r ∷ []) s s
-Followed-other r s none = record {
-  same_length = refl;
-  keeps = λ k found. found;
-  waits = λ k h. h;
-  new = λ k found. inl found;
-  waiting = λ k h. inl h;
-  there = λ k refers lt. absurd (false≢true (sym (ap (λ (b : Bool). b || false) (none k)) ∙ refers));
-  same_left = refl;
-}
-
-or_false : (b : Bool) → b ≡ true → (b || false) ≡ true
-or_false b e = or_left b false e
-
-from_or_false : (b : Bool) → (b || false) ≡ true → b ≡ true
-from_or_false true e = refl
-from_or_false false e = e
-
--- a reference to a module
-pub Followed-one : (r : Reference) (index : ℕ) (s t : Search) → ((k : ℕ) → is_module k r.master ≡ eqb k index) → Found index s t → Followed (r ∷ []) s t
-Followed-one r index s t tests found = record {
-  same_length = found.same_length;
-  keeps = found.keeps;
-  waits = found.waits;
-  new = λ k h. elim (found.new k h) [
-    | inl old ↦ inl old
-    | inr both ↦ inr (both.0, or_false (is_module k r.master) (tests k ∙ eq-eqb k index both.1))
-  ];
-  waiting = found.waiting;
-  there = λ k refers lt.
-      let same : k ≡ index = eqb-true k index (sym (tests k) ∙ from_or_false (is_module k r.master) refers) in
-      subst (λ (x : ℕ). IsFound t x) (sym same) (found.there (subst (λ (x : ℕ). x < length s.reached) same lt));
-  same_left = found.same_left;
 }
 
 -- references, and one more

@@ -1,18 +1,12 @@
--- For the code alone: modules that are marked since some reference is to them.
+-- For the code alone: indexes that are marked since some reference is to them.
 use Rattle.std.specs.Prelude.{◌≡◌, ◌<◌, ◌||◌, ℕ, Bool, false, List, length, slice_index_or}
 use Rattle.module_graph.specs.declared.references.Reference.{Reference}
-use Rattle.module_graph.specs.Reach.{refers_to}
 use Rattle.module_graph.specs.Top.{is_instantiated}
 
--- those that references are to are marked besides
-pub record IsMarked (references : List Reference) (old new : List Bool) : Type 0 where
+-- those that a test hits are marked besides
+pub record AreMarked (hits : ℕ → Bool) (old new : List Bool) : Type 0 where
   pub same_length : length new ≡ length old
-  pub marks : (k : ℕ) → k < length old → slice_index_or new k false ≡ (slice_index_or old k false || refers_to k references)
-
--- those that the references of some module are to are marked besides
-pub record AreMarked (references : List (List Reference)) (old new : List Bool) : Type 0 where
-  pub same_length : length new ≡ length old
-  pub marks : (k : ℕ) → k < length old → slice_index_or new k false ≡ (slice_index_or old k false || is_instantiated references k)
+  pub marks : (k : ℕ) → k < length old → slice_index_or new k false ≡ (slice_index_or old k false || hits k)
 
 -- each module that some module instantiates is marked, and no other
 pub record AreInstantiated (references : List (List Reference)) (marks : List Bool) : Type 0 where

@@ -7,6 +7,7 @@ use crate::masters::references_of;
 use crate::reach::{ReachedList, reached_from};
 use crate::references::{ReferenceList, ReferenceLists};
 use crate::top::{first_of, last_root};
+use crate::udps::reached_udps;
 use crate::unknown::first_unknown;
 use byte_lists::{Bytes, NameList};
 use std::alloc::{AllocError, Global};
@@ -47,7 +48,7 @@ fn names_of(alloc: Global, modules: &[Module]) -> Result<NameList, AllocError>
 impl ModuleGraph {
     ghost use Rattle.std.specs.Option.{option_copied};
     ghost use Rattle.module_graph.specs.Graph.{graph_of};
-    ghost use Rattle.module_graph.specs.Reach.{reached_modules};
+    ghost use Rattle.module_graph.specs.Reach.{reached_modules, reached_udps};
     ghost use Rattle.module_graph.specs.Rules.{circular_references, unknown_masters};
     ghost use Rattle.module_graph.specs.Top.{top_of};
     ghost use Rattle.rule_places.specs.Places.{first_place};
@@ -114,6 +115,19 @@ impl ModuleGraph {
         ensures { IfOk result (λ reached. reached ≡ reached_modules self.now.references top) }
     {
         reached_from(alloc, self.references.as_slice(), top)
+    }
+
+    /// For each of so many primitives of the file whether a reached module instantiates it.
+    pub fn reached_udps(
+        &self,
+        alloc: Global,
+        reached: &[bool],
+        count: usize,
+    ) -> Result<ReachedList, AllocError>
+        ensures { IfOk result (λ list.
+            list ≡ reached_udps self.now.references reached.now count) }
+    {
+        reached_udps(alloc, self.references.as_slice(), reached, count)
     }
 
     /// The first reference of a reached module to neither a module nor a primitive, None where there is

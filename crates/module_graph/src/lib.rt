@@ -3,6 +3,7 @@
 
 mod circles;
 mod graph;
+mod marks;
 mod masters;
 mod numbers;
 mod order;
@@ -10,6 +11,7 @@ mod reach;
 mod references;
 mod repeated;
 mod top;
+mod udps;
 mod unknown;
 
 pub use graph::ModuleGraph;

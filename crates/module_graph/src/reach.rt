@@ -3,6 +3,7 @@ ghost use Rattle.std.specs.Prelude.{◌≡◌, [], ◌∷◌, false, slice_index
 ghost use Rattle.module_graph.specs.Reach.{reached_modules};
 ghost use Rattle.module_graph.specs.Searches.{Found, Followed, IsStart};
 
+use crate::marks::no_marks;
 use crate::references::{Master, Reference, ReferenceList};
 use sqlite_items::Items;
 use std::alloc::{AllocError, Global};
@@ -22,7 +23,7 @@ fn start(alloc: Global, count: usize) -> Result<Search, AllocError>
     ensures { IfOk result (IsStart count) }
 {
     Ok(Search {
-        reached: Items::from_vec(vec![in alloc; false; count]?),
+        reached: no_marks(alloc, count)?,
         waiting: Items::new(alloc),
     })
 }

@@ -100,6 +100,12 @@ fn sample_udps(alloc: Global) -> Result<UdpDeclList, AllocError> {
     Ok(udps)
 }
 
+/// The graph of these.
+fn sample(alloc: Global) -> Result<ModuleGraph, AllocError> {
+    let modules = sample_modules(alloc)?;
+    ModuleGraph::new(alloc, &modules, &sample_udps(alloc)?)
+}
+
 fn reference(token: u32, master: Master) -> Reference {
     Reference {
         location: at(token),
@@ -109,10 +115,8 @@ fn reference(token: u32, master: Master) -> Reference {
 
 #[test]
 fn names_mean_modules_then_primitives(rt: HostRuntime) -> Result<(), Fail> {
-    let modules = sample_modules(rt.alloc())?;
-    let graph = ModuleGraph::new(rt.alloc(), &modules, &sample_udps(rt.alloc())?)?;
+    let graph = sample(rt.alloc())?;
     assert_eq!(rt; graph.references().len(), 4);
-    assert_eq!(rt; graph.references()[0].as_slice(), [].as_slice());
     assert_eq!(rt;
         graph.references()[1].as_slice(),
         [
@@ -131,32 +135,52 @@ fn names_mean_modules_then_primitives(rt: HostRuntime) -> Result<(), Fail> {
         ]
         .as_slice()
     );
-    assert_eq!(rt; graph.names().len(), 4);
-    assert_eq!(rt; graph.names()[3].as_slice(), b"half".as_slice());
     Ok(())
 }
 
 #[test]
-fn rules_speak_of_what_the_top_reaches(rt: HostRuntime) -> Result<(), Fail> {
-    let modules = sample_modules(rt.alloc())?;
-    let graph = ModuleGraph::new(rt.alloc(), &modules, &sample_udps(rt.alloc())?)?;
+fn the_last_root_or_the_chosen_module_is_the_top(rt: HostRuntime) -> Result<(), Fail> {
+    let graph = sample(rt.alloc())?;
+    assert_eq!(rt; graph.names().len(), 4);
+    assert_eq!(rt; graph.names()[3].as_slice(), b"half".as_slice());
     assert_eq!(rt; graph.top(None), Some(1));
     assert_eq!(rt; graph.top(Some(b"half")), Some(3));
     assert_eq!(rt; graph.top(Some(b"flop")), None);
+    Ok(())
+}
 
-    let from_top = graph.reached(rt.alloc(), 1)?;
-    assert_eq!(rt; from_top.as_slice(), [true, true, false, false].as_slice());
-    assert_eq!(rt; graph.unknown_master(from_top.as_slice()), Some(at(26)));
+#[test]
+fn the_top_reaches_modules_and_primitives(rt: HostRuntime) -> Result<(), Fail> {
+    let graph = sample(rt.alloc())?;
+    let reached = graph.reached(rt.alloc(), 1)?;
+    assert_eq!(rt; reached.as_slice(), [true, true, false, false].as_slice());
+    let udps = graph.reached_udps(rt.alloc(), reached.as_slice(), 2)?;
+    assert_eq!(rt; udps.as_slice(), [true, false].as_slice());
+    let none = graph.reached_udps(rt.alloc(), &[true, false, true, true], 2)?;
+    assert_eq!(rt; none.as_slice(), [false, false].as_slice());
+    Ok(())
+}
+
+#[test]
+fn a_circle_is_no_fault_where_it_is_not_reached(rt: HostRuntime) -> Result<(), Fail> {
+    let graph = sample(rt.alloc())?;
+    let reached = graph.reached(rt.alloc(), 1)?;
+    assert_eq!(rt; graph.unknown_master(reached.as_slice()), Some(at(26)));
     assert_eq!(rt;
-        graph.circular_reference(rt.alloc(), from_top.as_slice())?,
+        graph.circular_reference(rt.alloc(), reached.as_slice())?,
         None
     );
+    Ok(())
+}
 
-    let from_half = graph.reached(rt.alloc(), 3)?;
-    assert_eq!(rt; from_half.as_slice(), [false, false, true, true].as_slice());
-    assert_eq!(rt; graph.unknown_master(from_half.as_slice()), None);
+#[test]
+fn an_unknown_name_is_no_fault_where_it_is_not_reached(rt: HostRuntime) -> Result<(), Fail> {
+    let graph = sample(rt.alloc())?;
+    let reached = graph.reached(rt.alloc(), 3)?;
+    assert_eq!(rt; reached.as_slice(), [false, false, true, true].as_slice());
+    assert_eq!(rt; graph.unknown_master(reached.as_slice()), None);
     assert_eq!(rt;
-        graph.circular_reference(rt.alloc(), from_half.as_slice())?,
+        graph.circular_reference(rt.alloc(), reached.as_slice())?,
         Some(at(42))
     );
     Ok(())

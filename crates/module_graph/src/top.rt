@@ -1,37 +1,37 @@
 //! The module that no module instantiates.
-ghost use Rattle.std.specs.Prelude.{◌≡◌, [], ◌∷◌, length, IfOk};
+ghost use Rattle.std.specs.Prelude.{◌≡◌, IfOk};
 ghost use Rattle.name_table.specs.Names.{index_of};
-ghost use Rattle.module_graph.specs.Marks.{IsMarked, AreMarked, AreInstantiated};
-ghost use Rattle.module_graph.specs.Top.{last_root};
+ghost use Rattle.module_graph.specs.Marks.{AreInstantiated, AreMarked};
+ghost use Rattle.module_graph.specs.Reach.{is_module, refers_to};
+ghost use Rattle.module_graph.specs.Top.{is_instantiated, last_root};
 
+use crate::marks::{mark, no_marks};
 use crate::references::{Master, Reference, ReferenceList};
 use byte_lists::Bytes;
 use sqlite_items::Items;
 use std::alloc::{AllocError, Global};
 
 /// Marks the module that a reference is to.
-fn mark(marks: &mut Items<bool>, reference: &Reference)
-    ensures { IsMarked (reference.now ∷ []) marks.old marks.new }
+fn mark_master(marks: &mut Items<bool>, reference: &Reference)
+    ensures { AreMarked (λ k. is_module k reference.now.master) marks.old marks.new }
 {
     if let Master::Module(module) = reference.master {
-        if module < marks.len() {
-            marks.set(module, true);
-        }
+        mark(marks, module);
     }
 }
 
 /// Marks the modules that the references of one module are to.
 fn mark_list(marks: &mut Items<bool>, references: &[Reference])
-    ensures { IsMarked references.now marks.old marks.new }
+    ensures { AreMarked (λ k. refers_to k references.now) marks.old marks.new }
 {
     for reference in references {
-        mark(marks, reference);
+        mark_master(marks, reference);
     }
 }
 
 /// Marks the modules that the references of all modules are to.
 fn mark_all(marks: &mut Items<bool>, references: &[ReferenceList])
-    ensures { AreMarked references.now marks.old marks.new }
+    ensures { AreMarked (λ k. is_instantiated references.now k) marks.old marks.new }
 {
     for list in references {
         mark_list(marks, list.as_slice());
@@ -42,7 +42,7 @@ fn mark_all(marks: &mut Items<bool>, references: &[ReferenceList])
 fn instantiated(alloc: Global, references: &[ReferenceList]) -> Result<Items<bool>, AllocError>
     ensures { IfOk result (AreInstantiated references.now) }
 {
-    let mut marks = Items::from_vec(vec![in alloc; false; references.len()]?);
+    let mut marks = no_marks(alloc, references.len())?;
     mark_all(&mut marks, references);
     Ok(marks)
 }

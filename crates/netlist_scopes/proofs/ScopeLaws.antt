@@ -7,7 +7,7 @@ use Rattle.v_tree.specs.declared.modules.Module.{Module}
 use Rattle.v_tree.specs.declared.primitives.UdpDecl.{UdpDecl}
 use Rattle.module_graph.specs.Graph.{Graph, graph_of, master_of, module_names, references_in, udp_names}
 use Rattle.module_graph.specs.Reach.{is_reached}
-use Rattle.v_tree.specs.declared.directives.Directive.{Directive}
+use Rattle.v_tree.specs.declared.modules.File.{File}
 use Rattle.netlist_scopes.specs.declared.rules.BrokenRule.{BrokenRule}
 use Rattle.netlist_scopes.proofs.RuleLaws.{first_broken_none, first_broken_some}
 use Rattle.netlist_scopes.specs.Rules.{IsFirstBroken, broken_rule, first_broken, first_of}
@@ -25,20 +25,16 @@ length-reached_from modules udps (Some top) =
     length-map-range_with_len (is_reached (graph_of modules udps).references top) 0 (length (graph_of modules udps).references) ∙ length-references modules udps
 
 -- the broken rule is the first of the rules, by their numbers, that has a place
-pub broken_rule-places : (modules : List Module) (udps : List UdpDecl) (directives : List Directive) (graph : Graph) (top : Option ℕ) (reached : List Bool) →
-    broken_rule (netlist_places modules udps directives graph top reached) ≡ first_broken (map first_of (early_places modules udps directives graph top reached ++ late_places modules directives reached))
-broken_rule-places modules udps directives graph top reached = refl
+pub broken_rule-places : (file : File) (graph : Graph) (top : Option ℕ) (reached : List Bool) →
+    broken_rule (netlist_places file graph top reached) ≡ first_broken (map first_of (early_places file graph top reached ++ late_places file reached))
+broken_rule-places file graph top reached = refl
 
 -- it has the lowest number of those that are broken, and its line is that of its first place
-pub IsFirstBroken-broken_rule : (modules : List Module) (udps : List UdpDecl) (directives : List Directive) (graph : Graph) (top : Option ℕ) (reached : List Bool) (broken : BrokenRule) →
-    broken_rule (netlist_places modules udps directives graph top reached) ≡ Some broken →
-    IsFirstBroken (early_places modules udps directives graph top reached ++ late_places modules directives reached) broken
-IsFirstBroken-broken_rule modules udps directives graph top reached broken e =
-    first_broken_some (early_places modules udps directives graph top reached ++ late_places modules directives reached) broken e
+pub IsFirstBroken-broken_rule : (file : File) (graph : Graph) (top : Option ℕ) (reached : List Bool) (broken : BrokenRule) →
+    broken_rule (netlist_places file graph top reached) ≡ Some broken → IsFirstBroken (early_places file graph top reached ++ late_places file reached) broken
+IsFirstBroken-broken_rule file graph top reached broken e = first_broken_some (early_places file graph top reached ++ late_places file reached) broken e
 
 -- there is none exactly where no rule has a place
-pub broken_rule_none : (modules : List Module) (udps : List UdpDecl) (directives : List Directive) (graph : Graph) (top : Option ℕ) (reached : List Bool) →
-    broken_rule (netlist_places modules udps directives graph top reached) ≡ None →
-    All (λ r. r.places ≡ []) (early_places modules udps directives graph top reached ++ late_places modules directives reached)
-broken_rule_none modules udps directives graph top reached e =
-    first_broken_none (early_places modules udps directives graph top reached ++ late_places modules directives reached) e
+pub broken_rule_none : (file : File) (graph : Graph) (top : Option ℕ) (reached : List Bool) →
+    broken_rule (netlist_places file graph top reached) ≡ None → All (λ r. r.places ≡ []) (early_places file graph top reached ++ late_places file reached)
+broken_rule_none file graph top reached e = first_broken_none (early_places file graph top reached ++ late_places file reached) e

@@ -53,6 +53,7 @@ broken_of r = option_map (λ place. record { rule = r.rule; line = place.line })
 abbrev pub first_broken : List RulePlace → Option BrokenRule
 first_broken rules = option_and_then broken_of (find (λ r. is_some r.place) rules)
 
+-- a rule with this first place, where it has one
 abbrev pub rule_place : NetlistRule → Option Location → RulePlace
 rule_place r first = record { rule = r; place = first }
 

@@ -1,9 +1,7 @@
 -- What a file declares and uses under a choice of its top, and the first places of the rules on it.
 use Rattle.std.specs.Prelude.{ℕ, Bool, false, List, [], ◌∷◌, length, map, replicate, Option, Some, None}
 use Rattle.v_tree.specs.declared.locations.Location.{Location}
-use Rattle.v_tree.specs.declared.directives.Directive.{Directive}
-use Rattle.v_tree.specs.declared.modules.Module.{Module}
-use Rattle.v_tree.specs.declared.primitives.UdpDecl.{UdpDecl}
+use Rattle.v_tree.specs.declared.modules.File.{File}
 use Rattle.rule_places.specs.Places.{first_place}
 use Rattle.module_directives.specs.InForce.{settings_at}
 use Rattle.module_directives.specs.Precisions.{coarse_precisions}
@@ -30,57 +28,57 @@ reached_from graph (Some top) = reached_modules graph.references top
 reached_from graph None = replicate (length graph.references) false
 
 -- the first place of each rule
-abbrev pub netlist_places : List Module → List UdpDecl → List Directive → Graph → Option ℕ → List Bool → NetlistPlaces
-netlist_places modules udps directives graph top reached = record {
-  repeated_names = first_place (repeated_names modules udps);
+abbrev pub netlist_places : File → Graph → Option ℕ → List Bool → NetlistPlaces
+netlist_places file graph top reached = record {
+  repeated_names = first_place (repeated_names file.modules file.udps);
   absent_top = first_place (absent_tops top);
   unknown_masters = first_place (unknown_masters graph reached);
   circular_references = first_place (circular_references graph reached);
-  ports = first_place (reached_places rule.Ports directives reached modules);
-  repeated = first_place (reached_places rule.Repeated directives reached modules);
-  undeclared = first_place (reached_places rule.Undeclared directives reached modules);
-  selects = first_place (reached_places rule.Selects directives reached modules);
-  ranges = first_place (reached_places rule.Ranges directives reached modules);
-  coarse_precisions = first_place (coarse_precisions directives);
-  implicit = first_place (reached_places rule.Implicit directives reached modules);
+  ports = first_place (reached_places rule.Ports file.directives reached file.modules);
+  repeated = first_place (reached_places rule.Repeated file.directives reached file.modules);
+  undeclared = first_place (reached_places rule.Undeclared file.directives reached file.modules);
+  selects = first_place (reached_places rule.Selects file.directives reached file.modules);
+  ranges = first_place (reached_places rule.Ranges file.directives reached file.modules);
+  coarse_precisions = first_place (coarse_precisions file.directives);
+  implicit = first_place (reached_places rule.Implicit file.directives reached file.modules);
 }
 
 -- the rules with the numbers 1 to 8, each with all places that break it
-abbrev pub early_places : List Module → List UdpDecl → List Directive → Graph → Option ℕ → List Bool → List RulePlaces
-early_places modules udps directives graph top reached =
-    record { rule = law.RepeatedNames; places = repeated_names modules udps }
+abbrev pub early_places : File → Graph → Option ℕ → List Bool → List RulePlaces
+early_places file graph top reached =
+    record { rule = law.RepeatedNames; places = repeated_names file.modules file.udps }
     ∷ record { rule = law.AbsentTop; places = absent_tops top }
     ∷ record { rule = law.UnknownMasters; places = unknown_masters graph reached }
     ∷ record { rule = law.CircularReferences; places = circular_references graph reached }
-    ∷ record { rule = law.Ports; places = reached_places rule.Ports directives reached modules }
-    ∷ record { rule = law.RepeatedDeclarations; places = reached_places rule.Repeated directives reached modules }
-    ∷ record { rule = law.UndeclaredNets; places = reached_places rule.Undeclared directives reached modules }
-    ∷ record { rule = law.Selects; places = reached_places rule.Selects directives reached modules }
+    ∷ record { rule = law.Ports; places = reached_places rule.Ports file.directives reached file.modules }
+    ∷ record { rule = law.RepeatedDeclarations; places = reached_places rule.Repeated file.directives reached file.modules }
+    ∷ record { rule = law.UndeclaredNets; places = reached_places rule.Undeclared file.directives reached file.modules }
+    ∷ record { rule = law.Selects; places = reached_places rule.Selects file.directives reached file.modules }
     ∷ []
 
 -- the rules with the numbers 18 to 20, each with all places that break it
-abbrev pub late_places : List Module → List Directive → List Bool → List RulePlaces
-late_places modules directives reached =
-    record { rule = law.Ranges; places = reached_places rule.Ranges directives reached modules }
-    ∷ record { rule = law.CoarsePrecisions; places = coarse_precisions directives }
-    ∷ record { rule = law.ImplicitNets; places = reached_places rule.Implicit directives reached modules }
+abbrev pub late_places : File → List Bool → List RulePlaces
+late_places file reached =
+    record { rule = law.Ranges; places = reached_places rule.Ranges file.directives reached file.modules }
+    ∷ record { rule = law.CoarsePrecisions; places = coarse_precisions file.directives }
+    ∷ record { rule = law.ImplicitNets; places = reached_places rule.Implicit file.directives reached file.modules }
     ∷ []
 
 -- the scopes, given the graph, the top and the modules that it reaches
-abbrev pub scopes_with : List Module → List UdpDecl → List Directive → Graph → Option ℕ → List Bool → Scopes
-scopes_with modules udps directives graph top reached = record {
+abbrev pub scopes_with : File → Graph → Option ℕ → List Bool → Scopes
+scopes_with file graph top reached = record {
   graph = graph;
   top = top;
   reached = reached;
-  settings = map (λ m. settings_at directives m.location) modules;
-  scopes = map (scope_under directives) modules;
-  places = netlist_places modules udps directives graph top reached;
+  settings = map (λ m. settings_at file.directives m.location) file.modules;
+  scopes = map (scope_under file.directives) file.modules;
+  places = netlist_places file graph top reached;
 }
 
 -- the scopes, given the graph and the top
-abbrev pub scopes_from : List Module → List UdpDecl → List Directive → Graph → Option ℕ → Scopes
-scopes_from modules udps directives graph top = scopes_with modules udps directives graph top (reached_from graph top)
+abbrev pub scopes_from : File → Graph → Option ℕ → Scopes
+scopes_from file graph top = scopes_with file graph top (reached_from graph top)
 
 -- the scopes of a file under a choice of its top
-abbrev pub scopes_of : List Module → List UdpDecl → List Directive → Option (List ℕ) → Scopes
-scopes_of modules udps directives choice = scopes_from modules udps directives (graph_of modules udps) (top_of (graph_of modules udps) choice)
+abbrev pub scopes_of : File → Option (List ℕ) → Scopes
+scopes_of file choice = scopes_from file (graph_of file.modules file.udps) (top_of (graph_of file.modules file.udps) choice)

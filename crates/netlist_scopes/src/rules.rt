@@ -1,3 +1,4 @@
+//! The rules, and the first of them that is broken.
 ghost use Rattle.std.specs.Prelude.{◌≡◌};
 ghost use Rattle.std.specs.List.{find};
 ghost use Rattle.std.specs.Option.{is_some};
@@ -47,7 +48,7 @@ pub struct BrokenRule {
 }
 
 impl NetlistRule {
-    /// The number of the rule in its message, by which rules are entry in order.
+    /// The number of the rule in its message, by which rules are judged in order.
     pub fn number(self) -> u8
         ensures { result ≡ number_of self }
     {

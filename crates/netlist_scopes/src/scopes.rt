@@ -1,10 +1,11 @@
+//! The scopes of a file under a choice of its top.
 ghost use Rattle.std.specs.Prelude.{◌≡◌, ◌≤◌, length, map, replicate, IfOk, false};
 ghost use Rattle.std.specs.Option.{option_copied};
 ghost use Rattle.rule_places.specs.Places.{first_place};
 ghost use Rattle.module_directives.specs.InForce.{settings_at};
 ghost use Rattle.netlist_scopes.specs.Reached.{scope_under, name_places};
 ghost use Rattle.netlist_scopes.specs.Rules.{broken_rule};
-ghost use Rattle.netlist_scopes.specs.Scopes.{absent_tops, reached_from, netlist_places, scopes_with, scopes_from, scopes_of};
+ghost use Rattle.netlist_scopes.specs.Scopes.{absent_tops, reached_from, netlist_places, scopes_with, scopes_of};
 
 use crate::places::NetlistPlaces;
 use crate::reached::places_among;
@@ -116,7 +117,7 @@ fn netlist_places(
 ) -> Result<NetlistPlaces, AllocError>
     requires { names ≡ name_places file.now.directives reached.now file.now.modules }
     ensures { IfOk result (λ places. places
-        ≡ netlist_places file.now.modules file.now.udps file.now.directives graph.now top reached.now) }
+        ≡ netlist_places file.now graph.now top reached.now) }
 {
     Ok(NetlistPlaces {
         repeated_names: repeated_name(alloc, &file.modules, &file.udps)?,
@@ -143,7 +144,7 @@ fn scopes_with(
 ) -> Result<Scopes, AllocError>
     requires { length reached ≡ length file.now.modules }
     ensures { IfOk result (λ scopes. scopes
-        ≡ scopes_with file.now.modules file.now.udps file.now.directives graph top reached) }
+        ≡ scopes_with file.now graph top reached) }
 {
     let (modules, directives) = (file.modules.as_slice(), file.directives.as_slice());
     let (settings, scopes, names) = scopes_and_places(
@@ -164,11 +165,11 @@ fn scopes_with(
 }
 
 impl Scopes {
-    /// The scopes of a file under a choice of its top, by the top's name as a module has it; without a
-    /// choice the top is the last module in the text that no module instantiates.
+    /// The scopes of a file under a choice of its top, by the top's name as a module has it; without
+    /// a choice the top is the last module in the text that no module instantiates.
     pub fn new(alloc: Global, file: &File, choice: Option<&[u8]>) -> Result<Scopes, AllocError>
         ensures { IfOk result (λ scopes. scopes
-            ≡ scopes_of file.now.modules file.now.udps file.now.directives (option_copied choice.entry)) }
+            ≡ scopes_of file.now (option_copied choice.entry)) }
     {
         let graph = ModuleGraph::new(alloc, &file.modules, &file.udps)?;
         let top = graph.top(choice);

@@ -28,8 +28,8 @@ pub struct BrokenLine {
     pub line: u32,
 }
 
-/// What a netlist shows, its text, the choice of the top, and the rule that is answered, where one is
-/// broken.
+/// What a netlist shows, its text, the choice of the top, and the rule that is answered, where one
+/// is broken.
 pub struct NetlistRow {
     pub shows: &'static str,
     pub text: &'static str,
