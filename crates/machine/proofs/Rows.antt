@@ -68,12 +68,12 @@ schedule = record { times = 0 ∷ []; inputs_at = λ tick. one ∷ []; end = 2 }
 
 -- the output is seen as St1
 copy-row : strobe row (netlist_run row 3 schedule) 0 ≡ Some (one ∷ [])
-unfolding row schedule wire copy first second driven lone one start map_cells pass evaluate first_phase settle mature is_machine_due due_times further step next_tick run_from run input_signals next_element nets_after next_island driven_signals charged_signals prefer_driven_signals island_signals charges_left take_level spread spread_from settled_bounds signals_between settled better_high better_low
+unfolding row schedule wire copy first second driven lone one start map_cells pass evaluate first_phase settle mature is_machine_due due_times further step next_tick run_from run input_signals next_element nets_after next_island driven_signals charged_signals prefer_driven_signals island_signals charges_left take_level spread spread_from settled_bounds signals_between settled_signals better_high better_low
 copy-row = refl
 
 -- with its net stuck at 0 it is seen as Su0
 stuck-row : strobe row (own_run row (IslandCell 1) (NetStuck 1 false) 3 schedule) 0 ≡ Some (stuck ∷ [])
-unfolding row schedule wire copy first second driven lone one stuck start map_cells pass evaluate first_phase settle mature is_machine_due due_times further step next_tick run_from run input_signals next_element nets_after next_island driven_signals charged_signals prefer_driven_signals island_signals charges_left take_level spread spread_from settled_bounds signals_between settled better_high better_low
+unfolding row schedule wire copy first second driven lone one stuck start map_cells pass evaluate first_phase settle mature is_machine_due due_times further step next_tick run_from run input_signals next_element nets_after next_island driven_signals charged_signals prefer_driven_signals island_signals charges_left take_level spread spread_from settled_bounds signals_between settled_signals better_high better_low
 stuck-row = refl
 
 -- ---- a large trireg that a switch drives, and whose charge decays in 50 ticks
@@ -131,5 +131,5 @@ large_unknown = record { lo = negsuc 3; hi = pos 4 }
 -- the net is seen as St1, then as La1, and from 60 on as LaX
 decay-row : map (strobe cell (netlist_run cell 4 decay_schedule)) (0 ∷ 10 ∷ 60 ∷ 100 ∷ [])
     ≡ Some (one ∷ []) ∷ Some (large_one ∷ []) ∷ Some (large_unknown ∷ []) ∷ Some (large_unknown ∷ []) ∷ []
-unfolding cell decays trireg switch held alone inputs decay_schedule zero_signal large_one large_unknown wire driven lone one start map_cells pass evaluate first_phase settle mature is_machine_due due_times further step next_tick run_from run input_signals next_element nets_after next_island driven_signals charged_signals prefer_driven_signals island_signals charges_left take_level spread spread_from settled_bounds signals_between settled better_high better_low reduced_level
+unfolding cell decays trireg switch held alone inputs decay_schedule zero_signal large_one large_unknown wire driven lone one start map_cells pass evaluate first_phase settle mature is_machine_due due_times further step next_tick run_from run input_signals next_element nets_after next_island driven_signals charged_signals prefer_driven_signals island_signals charges_left take_level spread spread_from settled_bounds signals_between settled_signals better_high better_low reduced_level
 decay-row = refl

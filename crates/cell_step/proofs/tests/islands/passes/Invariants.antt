@@ -6,10 +6,10 @@ use Rattle.cell_step.specs.Fitting.{FitsIsland}
 use Rattle.cell_step.specs.Readings.{island_at}
 use Rattle.cell_step.proofs.tests.islands.passes.Given as goal
 
-pub record IsReady (parts : Parts) (state : IslandState) (nets links : ℕ) : Type 0 where
+pub record IsReady (parts : Parts) (state : IslandState) (net_room link_room : ℕ) : Type 0 where
   pub fits : FitsIsland parts 0 state
-  pub nets : length (island_at parts 0).nets ≤ nets
-  pub links : length (island_at parts 0).links ≤ links
+  pub nets : length (island_at parts 0).nets ≤ net_room
+  pub links : length (island_at parts 0).links ≤ link_room
 
 abbrev pub invariant-loop-pass : goal.invariant-loop-pass
 invariant-loop-pass g l = IsReady l.flat.parts l.state l.bench.nets l.bench.links
