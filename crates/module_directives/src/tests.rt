@@ -125,12 +125,13 @@ fn the_finest_precision_is_the_tick(rt: HostRuntime) -> Result<(), Fail> {
 #[test]
 fn a_precision_above_its_unit_is_coarse(rt: HostRuntime) -> Result<(), Fail> {
     assert_eq!(rt; coarse_precision(&directives()), Some(at(60)));
-    let two = [
+    let three = [
         timescale(8, -9, -9),
         timescale(24, -9, 0),
         timescale(16, -12, -9),
+        timescale(32, -9, -6),
     ];
-    assert_eq!(rt; coarse_precision(&two), Some(at(16)));
+    assert_eq!(rt; coarse_precision(&three), Some(at(16)));
     assert_eq!(rt; coarse_precision(&[timescale(0, -9, -12)]), None);
     Ok(())
 }

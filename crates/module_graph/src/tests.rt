@@ -150,6 +150,15 @@ fn the_last_root_or_the_chosen_module_is_the_top(rt: HostRuntime) -> Result<(), 
 }
 
 #[test]
+fn of_two_roots_the_last_is_the_top(rt: HostRuntime) -> Result<(), Fail> {
+    let mut modules = sample_modules(rt.alloc())?;
+    modules.push(module_with(rt.alloc(), "last", 80, &[("gone", 82)])?)?;
+    let graph = ModuleGraph::new(rt.alloc(), &modules, &Items::new(rt.alloc()))?;
+    assert_eq!(rt; graph.top(None), Some(4));
+    Ok(())
+}
+
+#[test]
 fn the_top_reaches_modules_and_primitives(rt: HostRuntime) -> Result<(), Fail> {
     let graph = sample(rt.alloc())?;
     let reached = graph.reached(rt.alloc(), 1)?;
@@ -247,5 +256,21 @@ fn a_circle_is_found_at_its_first_place(rt: HostRuntime) -> Result<(), Fail> {
         end.circular_reference(rt.alloc(), reached.as_slice())?,
         Some(at(9_997))
     );
+    Ok(())
+}
+
+#[test]
+fn of_two_circles_the_smaller_token_is_the_place(rt: HostRuntime) -> Result<(), Fail> {
+    let mut list = Items::new(rt.alloc());
+    list.push(reference(9, Master::Module(0)))?;
+    list.push(reference(4, Master::Module(0)))?;
+    let mut lists = Items::new(rt.alloc());
+    lists.push(list)?;
+    let graph = ModuleGraph::from_lists(
+        rt.alloc(),
+        NameList::from_vec(Vec::new(rt.alloc())),
+        lists,
+    )?;
+    assert_eq!(rt; graph.circular_reference(rt.alloc(), &[true])?, Some(at(4)));
     Ok(())
 }
