@@ -14,7 +14,7 @@ fn push_bytes(text: &mut String, bytes: &[u8]) -> Result<(), AllocError> {
 }
 
 /// The lines that aren't passed over, each as its number, a colon, its bytes and a bar.
-fn lines_shown(alloc: Global, text: &[u8]) -> Result<String, AllocError> {
+fn line_texts(alloc: Global, text: &[u8]) -> Result<String, AllocError> {
     let mut shown = String::new(alloc);
     let mut before = 0;
     let mut rest = text;
@@ -34,7 +34,7 @@ fn lines_shown(alloc: Global, text: &[u8]) -> Result<String, AllocError> {
 #[test]
 fn lines_have_their_numbers(rt: HostRuntime) -> Result<(), Fail> {
     for row in line_rows() {
-        let shown = lines_shown(rt.alloc(), row.text.as_bytes())?;
+        let shown = line_texts(rt.alloc(), row.text.as_bytes())?;
         assert_eq!(rt; shown.as_str(), row.lines, "at {:?}", row.text);
         assert_eq!(rt;
             line_count(row.text.as_bytes()),
@@ -47,7 +47,7 @@ fn lines_have_their_numbers(rt: HostRuntime) -> Result<(), Fail> {
 }
 
 /// The fields of a line, each with a bar behind it.
-fn fields_shown(alloc: Global, line: &[u8]) -> Result<String, AllocError> {
+fn field_texts(alloc: Global, line: &[u8]) -> Result<String, AllocError> {
     let mut shown = String::new(alloc);
     let mut rest = line;
     while let Some((field, behind)) = next_field(rest) {
@@ -61,14 +61,14 @@ fn fields_shown(alloc: Global, line: &[u8]) -> Result<String, AllocError> {
 #[test]
 fn fields_stand_between_blanks(rt: HostRuntime) -> Result<(), Fail> {
     for row in field_rows() {
-        let shown = fields_shown(rt.alloc(), row.line.as_bytes())?;
+        let shown = field_texts(rt.alloc(), row.line.as_bytes())?;
         assert_eq!(rt; shown.as_str(), row.fields, "at {:?}", row.line);
     }
     Ok(())
 }
 
 /// The names in a line, each with a bar behind it.
-fn names_shown(alloc: Global, line: &[u8]) -> Result<String, AllocError> {
+fn name_texts(alloc: Global, line: &[u8]) -> Result<String, AllocError> {
     let names = names_in(alloc, line)?;
     let mut shown = String::new(alloc);
     for name in names.as_slice() {
@@ -81,7 +81,7 @@ fn names_shown(alloc: Global, line: &[u8]) -> Result<String, AllocError> {
 #[test]
 fn names_have_escaped_components(rt: HostRuntime) -> Result<(), Fail> {
     for row in name_rows() {
-        let shown = names_shown(rt.alloc(), row.line.as_bytes())?;
+        let shown = name_texts(rt.alloc(), row.line.as_bytes())?;
         assert_eq!(rt; shown.as_str(), row.fields, "at {:?}", row.line);
     }
     Ok(())
