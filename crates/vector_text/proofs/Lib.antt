@@ -1,0 +1,13 @@
+pub mod BindingLemmas
+pub mod BodyLemmas
+pub mod InputLemmas
+pub mod KeptLaws
+pub mod LawfulLemmas
+pub mod NameLemmas
+pub mod OrderLaws
+pub mod PairLaws
+pub mod ReadingLemmas
+pub mod SayingLaws
+pub mod ScheduleLemmas
+pub mod ValueLemmas
+pub mod WholeLemmas

@@ -1,0 +1,27 @@
+use Rattle.std.proofs.Common.{◌≡◌, ◌<◌, ◌∙◌, length, eqb, get_or, true, false, sym, ap, Some, arith}
+use Rattle.std.proofs.lemmas.Bool.{ne_eqb, eqb-true, eqb-false}
+use Rattle.vector_text.specs.Sayings.{wanted_of, all_said, value_bytes}
+use Rattle.vector_text.proofs.ValueLemmas.{stopped, ended, none_in, empty_in, some_in}
+use Rattle.vector_text.proofs.values.wanted_in.Goals as goal
+
+pub returns-in-None : goal.returns-in-None
+returns-in-None c =
+    let at = get_or c.args.field.now c.loop-byte.byte-index 0 in
+    sym (none_in wanted_of c.args.field.now (stopped wanted_of c.loop-byte.wanted.items c.loop-byte.byte-index c.args.field.now (all_said wanted_of (value_bytes c.args.field.now)) c.loop-byte-test.true
+    (ne_eqb at 95 c.if-byte-eq95.false) (sym c.wanted_of.ensures ∙ c.in-None.is) c.loop-byte.invariant))
+
+pub returns-then-is_empty : goal.returns-then-is_empty
+returns-then-is_empty c =
+    let none : eqb (length c.loop-byte.wanted.items) 0 ≡ true = cc in
+    sym (empty_in wanted_of c.args.field.now c.loop-byte.wanted.items
+    (ended wanted_of c.loop-byte.wanted.items c.loop-byte.byte-index c.args.field.now (all_said wanted_of (value_bytes c.args.field.now)) c.loop-byte-test.false c.loop-byte.invariant)
+    (eqb-true (length c.loop-byte.wanted.items) 0 none))
+
+pub returns : goal.returns
+returns c =
+    let some : eqb (length c.loop-byte.wanted.items) 0 ≡ false = cc in
+    let filled : 0 < length c.loop-byte.wanted.items = omega (arith, eqb-false (length c.loop-byte.wanted.items) 0 some) in
+    ap Some c.from_vec.ensures
+    ∙ sym (some_in wanted_of c.args.field.now c.loop-byte.wanted.items
+    (ended wanted_of c.loop-byte.wanted.items c.loop-byte.byte-index c.args.field.now (all_said wanted_of (value_bytes c.args.field.now)) c.loop-byte-test.false c.loop-byte.invariant)
+    filled)

@@ -1,0 +1,10 @@
+pub mod Answers
+pub mod Binding
+pub mod BodyInside
+pub mod Flags
+pub mod Form
+pub mod Inside
+pub mod Lawful
+pub mod Sayings
+pub mod Text
+pub mod Written
