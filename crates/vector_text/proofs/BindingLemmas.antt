@@ -1,10 +1,10 @@
 -- Names of inputs and outputs, a bit at a time.
-use Rattle.std.proofs.Common.{◌≡◌, ℕ, zero, suc, ◌+◌, ◌<◌, ◌≤◌, ◌^◌, Bool, true, false, not, cond, eqb, leb, ◌&&◌, ◌||◌, List, [], ◌∷◌, ◌++◌, length, take, drop, get_or, map, replicate, set, Option, Some, None, Ok, Err, refl, sym, ap, subst, ◌∙◌, append_assoc, arith, inl, inr}
+use Rattle.std.proofs.Common.{◌≡◌, ℕ, zero, suc, ◌+◌, ◌<◌, ◌≤◌, Bool, true, false, eqb, leb, ◌||◌, List, [], ◌∷◌, ◌++◌, length, take, drop, get_or, map, replicate, set, Option, Some, None, Ok, Err, refl, sym, ap, subst, ◌∙◌, append_assoc, arith, inl, inr}
 use Rattle.std.specs.Prelude.{slice_get, All}
-use Rattle.std.specs.List.{list_all, list_any, range_with_len}
+use Rattle.std.specs.List.{list_all, range_with_len}
 use Rattle.std.proofs.lemmas.Bool.{cases_Bool, cases_eq, cases_lt, eq-eqb, ne_eqb, le-leb, lt-leb}
-use Rattle.std.proofs.lemmas.List.{append-nil, length-append, length-take, get_or-take, take_more, take_all, drop_more, drop_all, get_or_past, map-append, ext_get_or, get_or-set_same, get_or-set_other, length-set, length-map}
-use Rattle.std.proofs.lemmas.List.FromFn.{length-range_with_len, get_or-map-range_with_len, length-map-range_with_len}
+use Rattle.std.proofs.lemmas.List.{length-append, length-take, get_or-take, take_more, take_all, drop_more, drop_all, get_or_past, map-append, ext_get_or, get_or-set_same, get_or-set_other, length-set}
+use Rattle.std.proofs.lemmas.List.FromFn.{get_or-map-range_with_len, length-map-range_with_len}
 use Rattle.std.specs.Str.{IsUtf8, bytes_eq}
 use Rattle.std.proofs.lemmas.Str.{IsUtf8-from_ascii}
 use Rattle.std.proofs.lemmas.Slice.Eq.{bytes_eq-Decides}
@@ -18,7 +18,7 @@ use Rattle.vector_text.specs.declared.fault.BindFault.{BindFault}
 use Rattle.vector_text.specs.declared.fault.BindFault.TheVariants.{Width}
 use Rattle.vector_text.specs.declared.stimulus.StimulusLine.{StimulusLine}
 use Rattle.vector_text.specs.declared.vectors.VectorLine.{VectorLine}
-use Rattle.vector_text.specs.Binding.{is_net_among, are_new, has_width, width_fault, stimulus_line, lines_bound, lines_unless}
+use Rattle.vector_text.specs.Binding.{is_net_among, has_width, width_fault, stimulus_line, lines_bound, lines_unless}
 use Rattle.vector_text.specs.Lawful.{greatest_outputs}
 use Rattle.vector_text.specs.Flags.{flags_of}
 

@@ -1,9 +1,9 @@
 -- What the fields of a body write out, and the answers of reading a line.
-use Rattle.std.proofs.Common.{◌≡◌, ℕ, zero, suc, ◌+◌, ◌-◌, ◌*◌, ◌<◌, ◌≤◌, ◌^◌, Bool, true, false, not, cond, ltb, ◌&&◌, ◌||◌, min, List, [], ◌∷◌, ◌++◌, length, take, drop, get_or, map, Option, Some, None, Ok, Err, refl, sym, ap, subst, ◌∙◌, arith, inl, inr}
-use Rattle.std.specs.Prelude.{option_map, sum_by, flat_map, is_some, All}
+use Rattle.std.proofs.Common.{◌≡◌, ℕ, zero, suc, ◌+◌, ◌-◌, ◌*◌, ◌<◌, ◌≤◌, ◌^◌, Bool, true, false, not, ltb, ◌&&◌, ◌||◌, min, List, [], ◌∷◌, ◌++◌, length, take, drop, get_or, map, Option, Some, None, Err, refl, sym, ap, subst, ◌∙◌, arith, inl, inr}
+use Rattle.std.specs.Prelude.{option_map, flat_map, is_some, All}
 use Rattle.std.specs.List.{range_with_len, AllByRecursion}
 use Rattle.std.specs.Option.{ForSome}
-use Rattle.std.proofs.lemmas.Bool.{cases_Bool, cases_lt, ltb-false, lt-ltb, le-ltb, or_cases, both_ways}
+use Rattle.std.proofs.lemmas.Bool.{cases_lt, ltb-false, lt-ltb, le-ltb, both_ways}
 use Rattle.std.proofs.lemmas.List.{append-nil, take-append-drop, take-append-le, drop-append-le, get_or_append_left, get_or_at, length-append, take_all, drop_all}
 use Rattle.std.proofs.lemmas.List.Sums.{sum_by-append}
 use Rattle.std.proofs.lemmas.List.Elements.{recursion_from_All}
@@ -21,7 +21,7 @@ use Rattle.vector_text.specs.declared.said.Version.TheVariants.{First, Second}
 use Rattle.vector_text.specs.declared.said.Said.{Said}
 use Rattle.vector_text.specs.declared.said.Said.TheVariants.{Timed, Opens, Closes, Ends}
 use Rattle.vector_text.specs.Sayings.{said_of, is_second}
-use Rattle.vector_text.specs.Written.{Body, Block as WrittenBlock, last_time, greatest_count, greatest_size, timed_passes, written, with_timed, with_turns, with_block, turns_of, size_of, total_size, start_of, with_said, may_stand, passes_limit, breaks_order, delayed, said_fault, read_said, read_with}
+use Rattle.vector_text.specs.Written.{Body, Block as WrittenBlock, last_time, greatest_count, greatest_size, timed_passes, written, with_timed, with_turns, with_block, turns_of, size_of, total_size, start_of, may_stand, passes_limit, breaks_order, delayed, said_fault, read_said, read_with}
 use Rattle.vector_text.specs.Lawful.{greatest_time}
 use Rattle.vector_text.specs.Inside.{HasTurns, IsTimeWithin, IsRepeatWithin, IsWithin, HasSmallTime}
 use Rattle.vector_text.specs.BodyInside.{outside_lines, block_view, IsOpen, AreParts}

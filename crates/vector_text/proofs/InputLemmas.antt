@@ -1,11 +1,10 @@
 -- Names of inputs, one by one.
-use Rattle.std.proofs.Common.{◌≡◌, ℕ, zero, suc, ◌+◌, ◌<◌, ◌≤◌, Bool, true, false, not, ◌&&◌, List, [], ◌∷◌, ◌++◌, length, take, drop, get_or, Option, Some, None, refl, sym, ap, subst, ◌∙◌, append_assoc, arith, inl, inr}
+use Rattle.std.proofs.Common.{◌≡◌, ℕ, zero, suc, ◌+◌, ◌<◌, Bool, true, false, not, ◌&&◌, List, [], ◌∷◌, ◌++◌, take, Some, None, refl, sym, ap, ◌∙◌, append_assoc, arith, inl, inr}
 use Rattle.std.specs.Prelude.{slice_get}
 use Rattle.std.proofs.lemmas.Bool.{cases_Bool}
 use Rattle.std.proofs.lemmas.List.{append-nil, take_more, take_all}
 use Rattle.vector_text.specs.Binding.{is_net_among, are_new}
-use Rattle.vector_text.specs.Flags.{flags_of}
-use Rattle.vector_text.proofs.BindingLemmas.{get_some, get_none, flags_push}
+use Rattle.vector_text.proofs.BindingLemmas.{get_some, get_none}
 
 -- ---- new nets
 

@@ -1,8 +1,8 @@
 -- What each line of a text without fault keeps of what is written out: the order, and what the
 -- further turns of an open block need for it.
-use Rattle.std.proofs.Common.{◌≡◌, ℕ, zero, suc, ◌+◌, ◌-◌, ◌*◌, ◌<◌, ◌≤◌, ◌^◌, Bool, true, false, not, leb, ltb, ◌&&◌, ◌||◌, List, [], ◌∷◌, ◌++◌, map, Option, Some, None, is_some, refl, sym, ap, subst, ◌∙◌, append_assoc, arith, inl, inr}
+use Rattle.std.proofs.Common.{◌≡◌, ℕ, zero, suc, ◌+◌, ◌*◌, ◌<◌, ◌≤◌, Bool, true, false, not, leb, ◌||◌, List, [], ◌∷◌, ◌++◌, map, Option, Some, None, is_some, refl, sym, ap, subst, ◌∙◌, append_assoc, arith}
 use Rattle.std.specs.Prelude.{flat_map}
-use Rattle.std.specs.List.{list_all, range_with_len, AllByRecursion}
+use Rattle.std.specs.List.{range_with_len, AllByRecursion}
 use Rattle.std.proofs.lemmas.Bool.{and_parts, leb-true, leb-false, not-false, not-true}
 use Rattle.std.proofs.lemmas.List.{append-nil}
 use Rattle.vector_text.specs.declared.stimulus.StimulusLine.{StimulusLine}
@@ -10,9 +10,8 @@ use Rattle.vector_text.specs.declared.vectors.VectorLine.{VectorLine}
 use Rattle.vector_text.specs.declared.said.Repeat.{Repeat}
 use Rattle.vector_text.specs.declared.said.Said.{Said}
 use Rattle.vector_text.specs.declared.said.Said.TheVariants.{Timed, Opens, Closes, Ends}
-use Rattle.vector_text.specs.Written.{Block, Body, written, delayed, turn_of, turns_of, first_turn, start_of, line_at, with_timed, with_turns, with_said, may_follow, none_later, is_behind_period, timed_breaks, may_stand, breaks_order}
-use Rattle.vector_text.specs.Lawful.{MayFollow}
-use Rattle.vector_text.proofs.PairLaws.{each_append, each_front, each_back, each_weaker, Pairs, pairs_append, pairs_front, pairs_back, pairs_cross, pairs_push}
+use Rattle.vector_text.specs.Written.{Block, Body, written, delayed, turn_of, turns_of, line_at, with_timed, with_turns, with_said, may_follow, none_later, timed_breaks, may_stand, breaks_order}
+use Rattle.vector_text.proofs.PairLaws.{each_append, each_front, each_weaker, Pairs, pairs_append, pairs_front, pairs_back, pairs_push}
 use Rattle.vector_text.proofs.OrderLaws.{Follows, IsInside, each_follows, each_from, turns_from, all_later}
 
 -- an open block behind some lines

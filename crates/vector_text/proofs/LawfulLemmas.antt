@@ -1,8 +1,8 @@
 -- A stimulus made of vectors in order is lawful.
-use Rattle.std.proofs.Common.{◌≡◌, ℕ, zero, suc, ◌+◌, ◌<◌, ◌≤◌, ◌==◌, Bool, true, false, not, ◌&&◌, eqb, leb, List, [], ◌∷◌, ◌++◌, length, map, take, get_or, Option, Some, None, Ok, refl, sym, ap, subst, ◌∙◌, append_assoc, length-append, arith, inl, inr}
-use Rattle.std.specs.Prelude.{slice_get, All, AllPairs, Contains}
+use Rattle.std.proofs.Common.{◌≡◌, ℕ, zero, suc, ◌+◌, ◌<◌, ◌≤◌, ◌==◌, Bool, true, not, ◌&&◌, List, [], ◌∷◌, ◌++◌, length, map, take, get_or, Option, Some, None, Ok, refl, sym, ap, subst, ◌∙◌, append_assoc, length-append, arith, inl, inr}
+use Rattle.std.specs.Prelude.{All, AllPairs, Contains}
 use Rattle.std.specs.Option.{option_or}
-use Rattle.std.specs.List.{list_all, list_any}
+use Rattle.std.specs.List.{list_all}
 use Rattle.std.proofs.lemmas.Bool.{cases_Bool, cases_lt, lt-leb, eqb-true}
 use Rattle.std.proofs.lemmas.Bool.Decides.{Decides-eqb}
 use Rattle.std.proofs.lemmas.List.{append-nil, length-take, get_or-take, get_or-map, length-map}
@@ -31,7 +31,7 @@ use Rattle.vector_text.specs.Flags.{inputs_bound, outputs_bound}
 use Rattle.vector_text.specs.Lawful.{MayFollow, AreInOrder, HasWidth, IsLawful, greatest_outputs}
 use Rattle.vector_text.proofs.BindingLemmas.{found_within}
 use Rattle.vector_text.proofs.NameLemmas.{bits_push, input_unknown, input_other, input_twice, output_unknown, output_many}
-use Rattle.vector_text.proofs.WholeLemmas.{same_bound, bits_passed, lines_passed, stimulus_with}
+use Rattle.vector_text.proofs.WholeLemmas.{bits_passed, lines_passed, stimulus_with}
 
 -- ---- a list without faults
 
@@ -39,7 +39,7 @@ or_none : {F : Type 0} (a b : Option F) → option_or a b ≡ None → (a ≡ No
 or_none None b e = (refl, e)
 or_none (Some x) b e = absurd cc
 
-clean_first : {A F : Type 0} (fault : List A → A → Option F) (before : List A) (x : A) (xs : List A) → first_fault_behind fault before (x ∷ xs) ≡ None → (fault before x ≡ None) × (first_fault_behind fault (before ++ x ∷ []) xs ≡ None)
+pub clean_first : {A F : Type 0} (fault : List A → A → Option F) (before : List A) (x : A) (xs : List A) → first_fault_behind fault before (x ∷ xs) ≡ None → (fault before x ≡ None) × (first_fault_behind fault (before ++ x ∷ []) xs ≡ None)
 clean_first fault before x xs e = or_none (fault before x) (first_fault_behind fault (before ++ x ∷ []) xs) e
 
 some_none : {F : Type 0} (o : Option F) (x : F) → o ≡ Some x → o ≡ None → ⊥

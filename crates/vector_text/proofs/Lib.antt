@@ -5,6 +5,7 @@ pub mod KeptLaws
 pub mod LawfulLemmas
 pub mod NameLemmas
 pub mod OrderLaws
+pub mod OrderedLemmas
 pub mod PairLaws
 pub mod ReadingLemmas
 pub mod SayingLaws

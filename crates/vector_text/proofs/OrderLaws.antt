@@ -1,20 +1,16 @@
 -- What is accepted is in order: the lines that a text without fault writes out, in all turns of its
 -- blocks.
-use Rattle.std.proofs.Common.{◌≡◌, ℕ, zero, suc, ◌+◌, ◌-◌, ◌*◌, ◌<◌, ◌≤◌, ◌^◌, Bool, true, false, not, cond, leb, ltb, ◌&&◌, ◌||◌, List, [], ◌∷◌, ◌++◌, length, map, Option, Some, None, refl, sym, ap, subst, ◌∙◌, append_assoc, arith, inl, inr}
+use Rattle.std.proofs.Common.{◌≡◌, ℕ, zero, suc, ◌+◌, ◌*◌, ◌<◌, ◌≤◌, Bool, true, not, leb, ltb, ◌&&◌, ◌||◌, List, [], ◌∷◌, Option, arith}
 use Rattle.std.specs.Prelude.{flat_map}
 use Rattle.std.specs.List.{list_all, range_with_len, AllByRecursion}
-use Rattle.std.proofs.lemmas.Bool.{and_parts, or_cases, ltb-true, leb-true, not-false}
-use Rattle.std.proofs.lemmas.List.{append-nil}
+use Rattle.std.proofs.lemmas.Bool.{and_parts, ltb-true, leb-true}
 use Rattle.level_range.specs.declared.range.Logic.{Logic}
-use Rattle.vector_text.specs.declared.stimulus.StimulusLine.{StimulusLine}
 use Rattle.vector_text.specs.declared.stimulus.StimulusWhat.{StimulusWhat}
 use Rattle.vector_text.specs.declared.stimulus.StimulusWhat.TheVariants.{Values, Strobe, Expect}
 use Rattle.vector_text.specs.declared.vectors.VectorLine.{VectorLine}
-use Rattle.vector_text.specs.declared.said.Said.{Said}
-use Rattle.vector_text.specs.declared.said.Said.TheVariants.{Timed, Opens, Closes, Ends}
-use Rattle.vector_text.specs.Written.{Block, Body, written, delayed, turn_of, turns_of, start_of, line_at, with_timed, with_turns, with_said, may_follow, none_later, is_strobe, is_behind_period, timed_breaks, may_stand, breaks_order}
+use Rattle.vector_text.specs.Written.{Block, delayed, turn_of, may_follow, none_later, is_strobe}
 use Rattle.vector_text.specs.Lawful.{MayFollow}
-use Rattle.vector_text.proofs.PairLaws.{each_append, each_front, each_back, each_weaker, each_map, Pairs, pairs_append, pairs_front, pairs_back, pairs_cross, pairs_push, pairs_map}
+use Rattle.vector_text.proofs.PairLaws.{each_append, each_weaker, each_map, Pairs, pairs_append, pairs_map}
 
 -- one line may come behind another
 abbrev pub Follows : VectorLine → VectorLine → Type 0

@@ -1,7 +1,5 @@
 -- A text is read line by line.
-use Rattle.std.proofs.Common.{◌≡◌, ℕ, List, [], ◌∷◌, ◌++◌, Option, Some, None, Result, Ok, Err, refl, sym, ap, subst, ◌∙◌, append_assoc}
-use Rattle.std.specs.List.{fold}
-use Rattle.std.specs.Option.{option_or}
+use Rattle.std.proofs.Common.{◌≡◌, ℕ, List, [], ◌∷◌, ◌++◌, Option, Some, None, Ok, Err, refl, sym, ap, ◌∙◌, append_assoc}
 use Rattle.std.proofs.lemmas.Grind.{fold-append}
 use Rattle.std.proofs.lemmas.List.{append-nil}
 use Rattle.line_text.specs.Fields.{fields_of}
@@ -11,7 +9,6 @@ use Rattle.line_text.specs.Lines.{lines_behind}
 use Rattle.vector_text.specs.declared.fault.VecFault.{VecFault}
 use Rattle.vector_text.specs.declared.fault.VecFault.TheVariants.{BadLine, Limit, Order, NoEnd, Memory as NoMemory}
 use Rattle.vector_text.specs.Answers.{IsVecFault}
-use Rattle.vector_text.specs.declared.vectors.VectorLine.{VectorLine}
 use Rattle.vector_text.specs.declared.said.Version.{Version}
 use Rattle.vector_text.specs.Sayings.{said_of, version_of}
 use Rattle.vector_text.specs.Written.{Body, no_lines, with_line, body_of, line_fault, said_fault, read_with, body_unless_fault}
@@ -28,7 +25,7 @@ pub read_start : (version : Version) (all : List (ℕ × List ℕ)) → HasRead 
 unfolding body_of
 read_start version all = record { done = []; body_is = refl; all_is = refl; same_fault = refl }
 
-body_of-push : (version : Version) (done : List (ℕ × List ℕ)) (line : ℕ × List ℕ) → body_of version (done ++ line ∷ []) ≡ with_line version (body_of version done) line
+pub body_of-push : (version : Version) (done : List (ℕ × List ℕ)) (line : ℕ × List ℕ) → body_of version (done ++ line ∷ []) ≡ with_line version (body_of version done) line
 unfolding body_of
 body_of-push version done line = fold-append (with_line version) no_lines done (line ∷ [])
 

@@ -1,5 +1,5 @@
 -- What each saying of a line keeps.
-use Rattle.std.proofs.Common.{◌≡◌, ℕ, zero, suc, ◌<◌, ◌≤◌, Bool, true, false, cond, eqb, ◌&&◌, ◌||◌, List, [], ◌∷◌, Option, Some, None, refl, sym, arith, inl, inr}
+use Rattle.std.proofs.Common.{◌≡◌, ℕ, Bool, true, false, cond, eqb, ◌&&◌, ◌||◌, List, [], ◌∷◌, Option, Some, None, refl, arith, inl, inr}
 use Rattle.std.specs.Prelude.{option_map, option_and_then, IfSome, codes}
 use Rattle.std.specs.Str.{bytes_eq}
 use Rattle.std.proofs.lemmas.Bool.{cases_Bool, eqb-false}
@@ -8,8 +8,7 @@ use Rattle.line_text.specs.Numbers.{capped_number}
 use Rattle.vector_text.specs.declared.stimulus.StimulusWhat.{StimulusWhat}
 use Rattle.vector_text.specs.declared.stimulus.StimulusWhat.TheVariants.{Strobe}
 use Rattle.vector_text.specs.declared.said.Version.{Version}
-use Rattle.vector_text.specs.declared.said.Said.{Said}
-use Rattle.vector_text.specs.declared.said.Said.TheVariants.{Timed, Opens, Closes, Ends}
+use Rattle.vector_text.specs.declared.said.Said.TheVariants.{Ends}
 use Rattle.vector_text.specs.Sayings.{said_of, strobe_said, end_said, expect_said, repeat_said, endrepeat_said, values_said, values_what, expect_what, timed, timed_if, repeat_if, is_second}
 use Rattle.vector_text.specs.Inside.{HasTurns}
 

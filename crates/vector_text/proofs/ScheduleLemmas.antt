@@ -1,17 +1,14 @@
 -- The counts of a schedule.
 use Rattle.std.proofs.Common.{◌≡◌, ℕ, zero, suc, ◌+◌, ◌-◌, ◌*◌, ◌<◌, ◌≤◌, ◌^◌, Bool, true, false, not, cond, leb, ltb, ◌&&◌, ◌||◌, max, min, List, [], ◌∷◌, ◌++◌, length, take, drop, get_or, map, refl, sym, ap, subst, ◌∙◌, append_assoc, arith, inl, inr}
-use Rattle.std.specs.Prelude.{filter, sum_by, flat_map, slice_range, All}
+use Rattle.std.specs.Prelude.{filter, flat_map, slice_range, All}
 use Rattle.std.specs.List.{list_all, range_with_len}
-use Rattle.std.proofs.lemmas.Bool.{cases_Bool, cases_lt, leb-true, leb-false, le-leb, lt-leb, lt-ltb, le-ltb}
+use Rattle.std.proofs.lemmas.Bool.{cases_Bool, cases_lt, le-leb, lt-leb, lt-ltb, le-ltb}
 use Rattle.std.proofs.lemmas.List.{append-nil, take_more, take_all, take_at, drop_all, drop_at, get_or-take, get_or-drop, get_or_append_left, length-take-le, length-drop, length-append, take-append-drop, map-append, map-id}
 use Rattle.std.proofs.lemmas.List.FromFn.{map-range_with_len_more}
 use Rattle.std.proofs.lemmas.Grind.{flat_map-append}
 use Rattle.std.proofs.lemmas.List.Sums.{sum_by_push}
-use Rattle.line_text.specs.Numbers.{capped}
 use Rattle.vector_text.specs.declared.vectors.VectorLine.{VectorLine}
-use Rattle.vector_text.specs.declared.stimulus.StimulusWhat.{StimulusWhat}
-use Rattle.vector_text.specs.declared.stimulus.StimulusWhat.TheVariants.{Values, Strobe, Expect}
-use Rattle.vector_text.specs.Written.{delayed, size_of, total_size, is_strobe, none_later, may_strobe, may_follow}
+use Rattle.vector_text.specs.Written.{delayed, size_of, total_size, is_strobe, none_later, may_strobe}
 use Rattle.vector_text.specs.Inside.{behind_all, behind_strobes, strobes_with, AreCounts}
 
 behind_all-push : (lines : List VectorLine) (line : VectorLine) → behind_all (lines ++ line ∷ []) ≡ max (behind_all lines) (line.time + 1)

@@ -1,5 +1,5 @@
 -- For the code alone: what the fields of a body stand for.
-use Rattle.std.specs.Prelude.{◌≡◌, ℕ, ◌+◌, ◌-◌, ◌*◌, ◌^◌, ◌<◌, ◌≤◌, List, length, take, drop, All, Option, Some, None, option_map, is_some, false}
+use Rattle.std.specs.Prelude.{◌≡◌, ℕ, ◌+◌, ◌-◌, ◌*◌, ◌<◌, ◌≤◌, List, length, take, drop, All, Option, Some, None, option_map, is_some, false}
 use Rattle.std.specs.Option.{ForSome}
 use Rattle.line_text.specs.Numbers.{capped}
 use Rattle.vector_text.specs.declared.body.Block.{Block}

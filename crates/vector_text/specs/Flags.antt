@@ -1,5 +1,5 @@
 -- For the code alone: lists of nets as flags, one for each net of a netlist.
-use Rattle.std.specs.Prelude.{ℕ, Bool, List, length, map, Option, Some, None, Result, Ok, Err}
+use Rattle.std.specs.Prelude.{ℕ, Bool, List, map, Option, Some, None, Result, Ok, Err}
 use Rattle.std.specs.List.{range_with_len}
 use Rattle.line_text.specs.Faults.{first_fault}
 use Rattle.flat_net.specs.declared.parts.Parts.{Parts}

@@ -13,7 +13,7 @@ use Rattle.vector_text.specs.declared.said.Repeat.{Repeat}
 use Rattle.vector_text.specs.declared.said.Said.{Said}
 use Rattle.vector_text.specs.declared.said.Said.TheVariants.{Timed, Opens, Closes, Ends}
 use Rattle.vector_text.specs.Sayings.{version_of, inputs_of, outputs_of, said_of}
-use Rattle.vector_text.specs.Written.{Block, last_time, greatest_count, greatest_size, turns_of, total_size, last_turn_time}
+use Rattle.vector_text.specs.Written.{Block, last_time, greatest_count, greatest_size, turns_of, total_size}
 use Rattle.vector_text.specs.Lawful.{AreOrdered}
 
 -- a timed line with its number

@@ -2,7 +2,6 @@
 use Rattle.std.specs.Prelude.{◌≡◌, ℕ, ◌<◌, ◌≤◌, ◌^◌, List, length, All, Contains, AllPairs}
 use Rattle.flat_net.specs.Lists.{AreDistinct}
 use Rattle.flat_net.specs.declared.parts.Parts.{Parts}
-use Rattle.vector_text.specs.declared.stimulus.StimulusLine.{StimulusLine}
 use Rattle.vector_text.specs.declared.stimulus.StimulusWhat.{StimulusWhat}
 use Rattle.vector_text.specs.declared.stimulus.StimulusWhat.TheVariants.{Values, Strobe, Expect}
 use Rattle.vector_text.specs.declared.stimulus.Stimulus.{Stimulus}

@@ -6,12 +6,10 @@ use Rattle.level_range.specs.declared.range.Logic.TheVariants.{Zero, One, X, Z}
 use Rattle.line_text.specs.Names.{names_of}
 use Rattle.line_text.specs.Fields.{one_of, two_of, three_of}
 use Rattle.line_text.specs.Numbers.{capped_number}
-use Rattle.vector_text.specs.declared.stimulus.StimulusLine.{StimulusLine}
 use Rattle.vector_text.specs.declared.stimulus.StimulusWhat.{StimulusWhat}
 use Rattle.vector_text.specs.declared.stimulus.StimulusWhat.TheVariants.{Values, Strobe, Expect}
 use Rattle.vector_text.specs.declared.said.Version.{Version}
 use Rattle.vector_text.specs.declared.said.Version.TheVariants.{First, Second}
-use Rattle.vector_text.specs.declared.said.Repeat.{Repeat}
 use Rattle.vector_text.specs.declared.said.Said.{Said}
 use Rattle.vector_text.specs.declared.said.Said.TheVariants.{Timed, Opens, Closes, Ends}
 

@@ -1,6 +1,6 @@
 -- What lines of a vector text write out, and what is wrong with a line behind them.
 use Rattle.std.specs.Prelude.{ℕ, ◌+◌, ◌-◌, ◌*◌, ◌^◌, Bool, true, false, not, ◌&&◌, ◌||◌, List, [], ◌∷◌, ◌++◌, length, map, sum_by, flat_map, Option, Some, None, Result, Ok, Err, is_some, nat_lt, nat_le}
-use Rattle.std.specs.List.{list_all, list_any, fold, range_with_len}
+use Rattle.std.specs.List.{list_all, fold, range_with_len}
 use Rattle.line_text.specs.Fields.{fields_of}
 use Rattle.line_text.specs.Faults.{fault_if, first_there}
 use Rattle.vector_text.specs.declared.fault.VecFault.{VecFault}

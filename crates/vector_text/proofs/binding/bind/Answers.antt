@@ -1,12 +1,9 @@
-use Rattle.std.proofs.Common.{◌≡◌, ◌∙◌, ℕ, List, Option, Result, Ok, length, sym, ap, subst, rules}
+use Rattle.std.proofs.Common.{◌∙◌, ℕ, List, Result, sym, subst, rules}
 use Rattle.std.proofs.lemmas.Result.{err_from_is_err_and}
 use Rattle.flat_net.specs.Soundness.{IsSound}
 use Rattle.vector_text.specs.declared.fault.BindFault.{BindFault}
 use Rattle.vector_text.specs.declared.stimulus.StimulusLine.{StimulusLine}
-use Rattle.vector_text.specs.declared.vectors.VectorLine.{VectorLine}
 use Rattle.vector_text.specs.Answers.{IsBindFault}
-use Rattle.vector_text.specs.Binding.{lines_bound}
-use Rattle.vector_text.specs.Flags.{inputs_bound, outputs_bound}
 use Rattle.vector_text.proofs.LawfulLemmas.{stimulus_lawful}
 use Rattle.vector_text.proofs.WholeLemmas.{same_inputs, same_outputs, same_bound, inputs_failed, outputs_failed, all_failed, all_bound}
 use Rattle.vector_text.proofs.binding.bind.Goals as goal

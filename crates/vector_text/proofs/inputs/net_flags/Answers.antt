@@ -1,4 +1,4 @@
-use Rattle.std.proofs.Common.{get_or, arith, ◌∙◌}
+use Rattle.std.proofs.Common.{◌∙◌}
 use Rattle.vector_text.proofs.BindingLemmas.{no_flags, flags_more}
 use Rattle.vector_text.proofs.inputs.net_flags.Goals as goal
 

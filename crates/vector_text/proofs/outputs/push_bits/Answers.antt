@@ -1,4 +1,4 @@
-use Rattle.std.proofs.Common.{◌≡◌, ◌<◌, ◌≤◌, ◌+◌, ◌∙◌, ℕ, Some, None, length, length-append, sym, arith}
+use Rattle.std.proofs.Common.{◌≡◌, ◌<◌, ◌∙◌, ℕ, Some, length, length-append, sym, arith}
 use Rattle.std.specs.Prelude.{slice_get}
 use Rattle.flat_net.specs.Names.{nets_found}
 use Rattle.vector_text.proofs.BindingLemmas.{get_some, too_many, whole_bits, few_enough, bit_more}

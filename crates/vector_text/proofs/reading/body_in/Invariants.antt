@@ -1,7 +1,5 @@
-use Rattle.std.proofs.Common.{◌≡◌, ◌≤◌, ◌+◌, ◌++◌, ℕ, List, length}
+use Rattle.std.proofs.Common.{◌≤◌, ◌+◌, length}
 use Rattle.line_text.specs.Lines.{lines_behind}
-use Rattle.line_text.specs.Faults.{first_fault, first_fault_behind}
-use Rattle.vector_text.specs.Written.{body_of, line_fault}
 use Rattle.vector_text.proofs.ReadingLemmas.{HasRead}
 use Rattle.vector_text.proofs.reading.body_in.Given as goal
 

@@ -1,4 +1,4 @@
-use Rattle.std.proofs.Common.{◌≡◌, ℕ, List, leb, true, ◌&&◌, ap, sym, ◌∙◌}
+use Rattle.std.proofs.Common.{◌≡◌, ℕ, List, leb, true, ap, ◌∙◌}
 use Rattle.vector_text.specs.declared.vectors.VectorLine.{VectorLine}
 use Rattle.vector_text.specs.Written.{none_later, may_strobe}
 use Rattle.vector_text.proofs.ScheduleLemmas.{strobes-leb, may_strobe-early}

@@ -1,4 +1,4 @@
-use Rattle.std.proofs.Common.{◌≡◌, ◌+◌, ◌<◌, ◌^◌, ◌++◌, [], ◌∷◌, map, sym, arith, ◌∙◌}
+use Rattle.std.proofs.Common.{◌≡◌, ◌+◌, ◌<◌, ◌^◌, ◌++◌, [], ◌∷◌, map, arith, ◌∙◌}
 use Rattle.std.specs.Prelude.{slice_range}
 use Rattle.vector_text.specs.declared.vectors.VectorLine.{VectorLine}
 use Rattle.vector_text.specs.Written.{delayed}

@@ -1,5 +1,5 @@
-use Rattle.std.proofs.Common.{◌≡◌, ◌+◌, ◌-◌, ◌*◌, ◌<◌, ◌≤◌, ◌^◌, List, length, drop, sym, ap, subst, arith, ◌∙◌}
-use Rattle.std.specs.Prelude.{All, slice_range}
+use Rattle.std.proofs.Common.{◌≡◌, ◌+◌, ◌*◌, ◌<◌, ◌^◌, length, drop, sym, subst, arith, ◌∙◌}
+use Rattle.std.specs.Prelude.{All}
 use Rattle.vector_text.specs.declared.vectors.VectorLine.{VectorLine}
 use Rattle.vector_text.specs.declared.stimulus.StimulusWhat.TheVariants.{Strobe}
 use Rattle.vector_text.proofs.ScheduleLemmas.{turns_none, turns_first, turns_range, turns_more, turns_long, turn_fits, turn_small}

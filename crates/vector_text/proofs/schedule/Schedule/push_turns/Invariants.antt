@@ -1,4 +1,4 @@
-use Rattle.std.proofs.Common.{◌≡◌, ◌≤◌, ◌++◌, take, drop}
+use Rattle.std.proofs.Common.{◌≡◌, ◌++◌, take, drop}
 use Rattle.vector_text.proofs.ScheduleLemmas.{turns_up_to}
 use Rattle.vector_text.proofs.schedule.Schedule.push_turns.Given as goal
 
