@@ -7,7 +7,9 @@ use crate::{
     BindFault, LogicList, Stimulus, StimulusWhat, VecFault, Vectors, WantedList, bind, read_vectors,
 };
 use bound_rows::bound_rows;
+use byte_lists::{NameList, NetList};
 use first_rows::first_rows;
+use flat_net::Flat;
 use level_range::Logic;
 use netlist::{small_netlist, wide_netlist};
 use second_rows::second_rows;
@@ -75,29 +77,49 @@ fn push_name(text: &mut String, name: &[u8]) -> Result<(), AllocError> {
     Ok(())
 }
 
-/// The line and the names of the inputs, those of the outputs, each line with its number, the end.
-fn vectors_shown(alloc: Global, vectors: &Vectors) -> Result<String, AllocError> {
-    let mut text = String::new(alloc);
-    let inputs_line = vectors.inputs_line;
-    write!(text, "{inputs_line}")?;
-    for name in vectors.inputs.as_slice() {
-        push_name(&mut text, name.as_slice())?;
+/// The number of a line and the names that it lists.
+fn push_names(text: &mut String, line: u32, names: &NameList) -> Result<(), AllocError> {
+    write!(text, "{line}")?;
+    for name in names.as_slice() {
+        push_name(text, name.as_slice())?;
     }
-    let outputs_line = vectors.outputs_line;
-    write!(text, ";{outputs_line}")?;
-    if let Some(outputs) = &vectors.outputs {
-        for name in outputs.as_slice() {
-            push_name(&mut text, name.as_slice())?;
-        }
+    text.push(';')
+}
+
+/// The line of the outputs and their names, where there is one.
+fn push_outputs(text: &mut String, vectors: &Vectors) -> Result<(), AllocError> {
+    let line = vectors.outputs_line;
+    match &vectors.outputs {
+        Some(outputs) => push_names(text, line, outputs),
+        None => write!(text, "{line};"),
     }
-    text.push(';')?;
+}
+
+/// Each line with its number.
+fn push_lines(text: &mut String, vectors: &Vectors) -> Result<(), AllocError> {
     for line in vectors.lines.as_slice() {
         let number = line.line;
         write!(text, "{number}@")?;
-        push_line(&mut text, line.time, &line.what)?;
+        push_line(text, line.time, &line.what)?;
     }
-    let end = vectors.end;
-    write!(text, "end {end}")?;
+    Ok(())
+}
+
+fn push_end(text: &mut String, end: u64) -> Result<(), AllocError> {
+    write!(text, "end {end}")
+}
+
+fn push_vectors(text: &mut String, vectors: &Vectors) -> Result<(), AllocError> {
+    push_names(text, vectors.inputs_line, &vectors.inputs)?;
+    push_outputs(text, vectors)?;
+    push_lines(text, vectors)?;
+    push_end(text, vectors.end)
+}
+
+/// The line and the names of the inputs, those of the outputs, each line with its number, the end.
+fn vectors_shown(alloc: Global, vectors: &Vectors) -> Result<String, AllocError> {
+    let mut text = String::new(alloc);
+    push_vectors(&mut text, vectors)?;
     Ok(text)
 }
 
@@ -112,10 +134,7 @@ fn fault_shown(alloc: Global, fault: VecFault) -> Result<String, AllocError> {
 }
 
 fn shown(alloc: Global, text: &str) -> Result<String, AllocError> {
-    if text.len() > 1_000_000 {
-        return String::from_str(alloc, "long");
-    }
-    match read_vectors(alloc, text.as_bytes()) {
+    match vectors_in(alloc, text.as_bytes()) {
         Ok(vectors) => vectors_shown(alloc, &vectors),
         Err(fault) => fault_shown(alloc, fault),
     }
@@ -139,22 +158,33 @@ fn texts_of_the_second_version_are_read(rt: HostRuntime) -> Result<(), Fail> {
     Ok(())
 }
 
+fn push_nets(text: &mut String, nets: &NetList) -> Result<(), AllocError> {
+    for net in nets.as_slice() {
+        write!(text, " {net}")?;
+    }
+    text.push(';')
+}
+
+fn push_stimulus_lines(text: &mut String, stimulus: &Stimulus) -> Result<(), AllocError> {
+    for line in stimulus.lines.as_slice() {
+        push_line(text, line.time, &line.what)?;
+    }
+    Ok(())
+}
+
+fn push_stimulus(text: &mut String, stimulus: &Stimulus) -> Result<(), AllocError> {
+    text.push_str("inputs")?;
+    push_nets(text, &stimulus.inputs)?;
+    text.push_str("outputs")?;
+    push_nets(text, &stimulus.outputs)?;
+    push_stimulus_lines(text, stimulus)?;
+    push_end(text, stimulus.end)
+}
+
 /// The numbers of the inputs and of the outputs, the lines, the end.
 fn stimulus_shown(alloc: Global, stimulus: &Stimulus) -> Result<String, AllocError> {
-    let mut text = String::from_str(alloc, "inputs")?;
-    for net in stimulus.inputs.as_slice() {
-        write!(text, " {net}")?;
-    }
-    text.push_str(";outputs")?;
-    for net in stimulus.outputs.as_slice() {
-        write!(text, " {net}")?;
-    }
-    text.push(';')?;
-    for line in stimulus.lines.as_slice() {
-        push_line(&mut text, line.time, &line.what)?;
-    }
-    let end = stimulus.end;
-    write!(text, "end {end}")?;
+    let mut text = String::new(alloc);
+    push_stimulus(&mut text, stimulus)?;
     Ok(text)
 }
 
@@ -169,17 +199,36 @@ fn bind_fault_shown(alloc: Global, fault: BindFault) -> Result<String, AllocErro
     }
 }
 
-fn bound_shown(rt: &impl Abort, alloc: Global, text: &[u8]) -> Result<String, Fail> {
-    assert!(rt; text.len() < 1_000_000);
-    let flat = small_netlist(rt, alloc)?;
-    let vectors = match read_vectors(alloc, text) {
-        Ok(vectors) => vectors,
-        Err(fault) => return Ok(fault_shown(alloc, fault)?),
-    };
-    match bind(alloc, &vectors, &flat) {
-        Ok(stimulus) => Ok(stimulus_shown(alloc, &stimulus)?),
-        Err(fault) => Ok(bind_fault_shown(alloc, fault)?),
+/// What vectors mean for a netlist, without clauses.
+fn stimulus_of(alloc: Global, vectors: &Vectors, flat: &Flat) -> Result<Stimulus, BindFault> {
+    bind(alloc, vectors, flat)
+}
+
+fn answer_of(alloc: Global, vectors: &Vectors, flat: &Flat) -> Result<String, AllocError> {
+    match stimulus_of(alloc, vectors, flat) {
+        Ok(stimulus) => stimulus_shown(alloc, &stimulus),
+        Err(fault) => bind_fault_shown(alloc, fault),
     }
+}
+
+/// The vectors of a text that isn't long, without clauses.
+fn vectors_in(alloc: Global, text: &[u8]) -> Result<Vectors, VecFault> {
+    if text.len() > 16_000_000 {
+        return Err(VecFault::Memory);
+    }
+    read_vectors(alloc, text)
+}
+
+fn text_shown(alloc: Global, text: &[u8], flat: &Flat) -> Result<String, AllocError> {
+    match vectors_in(alloc, text) {
+        Ok(vectors) => answer_of(alloc, &vectors, flat),
+        Err(fault) => fault_shown(alloc, fault),
+    }
+}
+
+fn bound_shown(rt: &impl Abort, alloc: Global, text: &[u8]) -> Result<String, Fail> {
+    let flat = small_netlist(rt, alloc)?;
+    Ok(text_shown(alloc, text, &flat)?)
 }
 
 #[test]
@@ -205,9 +254,8 @@ fn share<T: Send + Sync>(value: T) -> T {
 #[test]
 fn a_stimulus_is_shared_between_threads(rt: HostRuntime) -> Result<(), Fail> {
     let flat = small_netlist(&rt, rt.alloc())?;
-    let text = b"vectors 1\ninputs s\n3 1\nend 7\n".as_slice();
-    let vectors = read_vectors(rt.alloc(), text)?;
-    let stimulus = share(bind(rt.alloc(), &vectors, &flat)?);
+    let vectors = vectors_in(rt.alloc(), b"vectors 1\ninputs s\n3 1\nend 7\n")?;
+    let stimulus = share(stimulus_of(rt.alloc(), &vectors, &flat)?);
     assert_eq!(rt; stimulus.end, 7);
     Ok(())
 }
@@ -215,7 +263,7 @@ fn a_stimulus_is_shared_between_threads(rt: HostRuntime) -> Result<(), Fail> {
 #[test]
 fn a_block_has_4194304_turns(rt: HostRuntime) -> Result<(), Fail> {
     let text = b"vectors 2\ninputs s\nrepeat 4194304 5 3\nstrobe 2\nendrepeat\nend 12582916\n";
-    let vectors = read_vectors(rt.alloc(), text.as_slice())?;
+    let vectors = vectors_in(rt.alloc(), text)?;
     let lines = vectors.lines.as_slice();
     assert_eq!(rt; lines.len(), 4_194_304);
     for (turn, line) in lines.iter().enumerate() {
@@ -240,33 +288,32 @@ fn greatest_text(alloc: Global, behind: &str) -> Result<String, AllocError> {
 #[test]
 fn the_greatest_size_is_met_and_passed(rt: HostRuntime) -> Result<(), Fail> {
     let text = greatest_text(rt.alloc(), "end 63\n")?;
-    assert!(rt; text.len() < 16_777_216);
-    let vectors = read_vectors(rt.alloc(), text.as_bytes())?;
+    let vectors = vectors_in(rt.alloc(), text.as_bytes())?;
     assert_eq!(rt; vectors.lines.as_slice().len(), 64);
     let text = greatest_text(rt.alloc(), "strobe 62\nend 63\n")?;
-    assert!(rt; text.len() < 16_777_216);
-    let answer = read_vectors(rt.alloc(), text.as_bytes());
+    let answer = vectors_in(rt.alloc(), text.as_bytes());
     assert_eq!(rt; answer.err(), Some(VecFault::Limit(6)));
     Ok(())
 }
 
-/// The answer for outputs of a netlist in which the name `big` has 524,288 bits.
-fn wide_outputs(rt: &impl Abort, alloc: Global, names: &str) -> Result<usize, Fail> {
+/// The stimulus of a text for a netlist in which the name `big` has 524,288 bits.
+fn wide_stimulus(
+    rt: &impl Abort,
+    alloc: Global,
+    text: &[u8],
+) -> Result<Result<Stimulus, BindFault>, Fail> {
     let flat = wide_netlist(rt, alloc)?;
-    let text = format!(in alloc; "vectors 1\ninputs s\noutputs {names}\nend 0\n")?;
-    assert!(rt; text.len() < 1_000);
-    let vectors = read_vectors(alloc, text.as_bytes())?;
-    let stimulus = bind(alloc, &vectors, &flat)?;
-    Ok(stimulus.outputs.as_slice().len())
+    let vectors = vectors_in(alloc, text)?;
+    Ok(stimulus_of(alloc, &vectors, &flat))
 }
 
 #[test]
 fn outputs_have_1048576_bits(rt: HostRuntime) -> Result<(), Fail> {
-    assert_eq!(rt; wide_outputs(&rt, rt.alloc(), "big big")?, 1_048_576);
-    let flat = wide_netlist(&rt, rt.alloc())?;
+    let text = b"vectors 1\ninputs s\noutputs big big\nend 0\n".as_slice();
+    let stimulus = wide_stimulus(&rt, rt.alloc(), text)??;
+    assert_eq!(rt; stimulus.outputs.as_slice().len(), 1_048_576);
     let text = b"vectors 1\ninputs s\noutputs big s big s s\nend 0\n".as_slice();
-    let vectors = read_vectors(rt.alloc(), text)?;
-    let answer = bind(rt.alloc(), &vectors, &flat);
+    let answer = wide_stimulus(&rt, rt.alloc(), text)?;
     assert_eq!(rt; answer.err(), Some(BindFault::Limit(3)));
     Ok(())
 }

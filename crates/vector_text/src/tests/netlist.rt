@@ -92,15 +92,19 @@ fn shape(alloc: Global) -> Result<Shape, AllocError> {
     })
 }
 
+fn island(alloc: Global, net: u32) -> Result<Island, AllocError> {
+    Ok(Island {
+        nets: numbers(alloc, &[net])?,
+        drives: ListOf::from_vec(Vec::new(alloc)),
+        links: ListOf::from_vec(Vec::new(alloc)),
+        shape: shape(alloc)?,
+    })
+}
+
 fn islands(alloc: Global, count: u32) -> Result<ListOf<Island>, AllocError> {
     let mut islands = Vec::new(alloc);
     for net in 0..count {
-        islands.push(Island {
-            nets: numbers(alloc, &[net])?,
-            drives: ListOf::from_vec(Vec::new(alloc)),
-            links: ListOf::from_vec(Vec::new(alloc)),
-            shape: shape(alloc)?,
-        })?;
+        islands.push(island(alloc, net)?)?;
     }
     Ok(ListOf::from_vec(islands))
 }
@@ -113,15 +117,19 @@ fn names(alloc: Global, texts: &[&str]) -> Result<NameList, AllocError> {
     Ok(NameList::from_vec(names))
 }
 
+fn own_find(alloc: Global, text: &str, number: u32) -> Result<Find, AllocError> {
+    Ok(Find {
+        name: bytes(alloc, text)?,
+        nets: numbers(alloc, &[number])?,
+    })
+}
+
 /// Each net by its own name.
 fn own_finds(alloc: Global, texts: &[&str]) -> Result<Vec<Find>, AllocError> {
     let mut finds = Vec::new(alloc);
     let mut number = 0;
     for text in texts {
-        finds.push(Find {
-            name: bytes(alloc, text)?,
-            nets: numbers(alloc, &[number])?,
-        })?;
+        finds.push(own_find(alloc, text, number)?)?;
         number = u32::wrapping_add(number, 1);
     }
     Ok(finds)
@@ -153,29 +161,47 @@ fn flat(rt: &impl Abort, alloc: Global, parts: Parts) -> Result<Flat, Fail> {
     Ok(Flat::new(alloc, parts)?)
 }
 
+fn find_of(alloc: Global, row: &FindRow) -> Result<Find, AllocError> {
+    Ok(Find {
+        name: bytes(alloc, row.name)?,
+        nets: numbers(alloc, row.nets)?,
+    })
+}
+
+fn push_finds(alloc: Global, finds: &mut Vec<Find>, rows: &[FindRow]) -> Result<(), AllocError> {
+    for row in rows {
+        finds.push(find_of(alloc, row)?)?;
+    }
+    Ok(())
+}
+
+fn small_parts(alloc: Global) -> Result<Parts, AllocError> {
+    let mut finds = own_finds(alloc, small_names())?;
+    push_finds(alloc, &mut finds, small_finds())?;
+    parts(alloc, small_names(), finds, small_inputs(), small_outputs())
+}
+
 /// Thirteen nets: outputs `q` and `qn`, inputs `s`, `r`, `v`, `\a+b ` and `\p `, the inout `b`, and
 /// inner nets.
 pub fn small_netlist(rt: &impl Abort, alloc: Global) -> Result<Flat, Fail> {
-    let mut finds = own_finds(alloc, small_names())?;
-    for row in small_finds() {
-        finds.push(Find {
-            name: bytes(alloc, row.name)?,
-            nets: numbers(alloc, row.nets)?,
-        })?;
-    }
-    let parts = parts(alloc, small_names(), finds, small_inputs(), small_outputs())?;
-    flat(rt, alloc, parts)
+    flat(rt, alloc, small_parts(alloc)?)
+}
+
+fn wide_find(alloc: Global) -> Result<Find, AllocError> {
+    Ok(Find {
+        name: bytes(alloc, "big")?,
+        nets: NetList::from_vec(vec![in alloc; 0; 524_288]?),
+    })
+}
+
+fn wide_parts(alloc: Global) -> Result<Parts, AllocError> {
+    let texts = ["s"];
+    let mut finds = own_finds(alloc, texts.as_slice())?;
+    finds.push(wide_find(alloc)?)?;
+    parts(alloc, texts.as_slice(), finds, &[0], &[])
 }
 
 /// One net, with a name of 524,288 bits besides its own.
 pub fn wide_netlist(rt: &impl Abort, alloc: Global) -> Result<Flat, Fail> {
-    let texts = ["s"];
-    let mut finds = own_finds(alloc, texts.as_slice())?;
-    let nets = vec![in alloc; 0; 524_288]?;
-    finds.push(Find {
-        name: bytes(alloc, "big")?,
-        nets: NetList::from_vec(nets),
-    })?;
-    let parts = parts(alloc, texts.as_slice(), finds, &[0], &[])?;
-    flat(rt, alloc, parts)
+    flat(rt, alloc, wide_parts(alloc)?)
 }
