@@ -8,11 +8,9 @@ use crate::{
 };
 use bound_rows::bound_rows;
 use byte_lists::{NameList, NetList};
-use first_rows::first_rows;
 use flat_net::Flat;
 use level_range::Logic;
 use netlist::{small_netlist, wide_netlist};
-use second_rows::second_rows;
 use std::alloc::{AllocError, Global};
 use std::process::Abort;
 use std::test::Fail;
@@ -140,22 +138,30 @@ fn shown(alloc: Global, text: &str) -> Result<String, AllocError> {
     }
 }
 
-#[test]
-fn texts_of_the_first_version_are_read(rt: HostRuntime) -> Result<(), Fail> {
-    for row in first_rows() {
-        let answer = shown(rt.alloc(), row.text)?;
+fn assert_texts(rt: &impl Abort, alloc: Global, rows: &[Row]) -> Result<(), Fail> {
+    for row in rows {
+        let answer = shown(alloc, row.text)?;
         assert_eq!(rt; answer.as_str(), row.answer, "at {:?}", row.text);
     }
     Ok(())
 }
 
 #[test]
+fn texts_of_the_first_version_are_read(rt: HostRuntime) -> Result<(), Fail> {
+    let alloc = rt.alloc();
+    assert_texts(&rt, alloc, first_rows::first_part())?;
+    assert_texts(&rt, alloc, first_rows::second_part())?;
+    assert_texts(&rt, alloc, first_rows::third_part())?;
+    assert_texts(&rt, alloc, first_rows::fourth_part())
+}
+
+#[test]
 fn texts_of_the_second_version_are_read(rt: HostRuntime) -> Result<(), Fail> {
-    for row in second_rows() {
-        let answer = shown(rt.alloc(), row.text)?;
-        assert_eq!(rt; answer.as_str(), row.answer, "at {:?}", row.text);
-    }
-    Ok(())
+    let alloc = rt.alloc();
+    assert_texts(&rt, alloc, second_rows::first_part())?;
+    assert_texts(&rt, alloc, second_rows::second_part())?;
+    assert_texts(&rt, alloc, second_rows::third_part())?;
+    assert_texts(&rt, alloc, second_rows::fourth_part())
 }
 
 fn push_nets(text: &mut String, nets: &NetList) -> Result<(), AllocError> {

@@ -1,7 +1,7 @@
 //! Texts of the first version, and others, with what reading them gives.
 use super::Row;
 
-static FIRST: [Row; 138] = [
+static FIRST_PART: [Row; 35] = [
     Row {
         text: "",
         answer: "no end",
@@ -142,6 +142,9 @@ static FIRST: [Row; 138] = [
         text: "vectors 1\ninputs s\noutputs q\noutputs qn\nend 0\n",
         answer: "bad line 4",
     },
+];
+
+static SECOND_PART: [Row; 35] = [
     Row {
         text: "vectors 1\ninputs s\n0 1\noutputs q\nend 0\n",
         answer: "bad line 4",
@@ -282,6 +285,9 @@ static FIRST: [Row; 138] = [
         text: "vectors 1\ninputs s r\n0 01\r\r\nend 0\n",
         answer: "bad line 3",
     },
+];
+
+static THIRD_PART: [Row; 35] = [
     Row {
         text: "vectors 1\ninputs s r\n00 0\n01 1\nend 0010\n",
         answer: "2<s><r>;0;3@0=0;4@1=1;end 10",
@@ -422,6 +428,9 @@ static FIRST: [Row; 138] = [
         text: "vectors 1\ninputs s r\nend 0\nstrobe 0",
         answer: "bad line 4",
     },
+];
+
+static FOURTH_PART: [Row; 33] = [
     Row {
         text: "vectors 1\ninputs s r\nend 9\nend 99999999999999999999\n",
         answer: "bad line 4",
@@ -556,6 +565,18 @@ static FIRST: [Row; 138] = [
     },
 ];
 
-pub fn first_rows() -> &'static [Row] {
-    &FIRST
+pub fn first_part() -> &'static [Row] {
+    &FIRST_PART
+}
+
+pub fn second_part() -> &'static [Row] {
+    &SECOND_PART
+}
+
+pub fn third_part() -> &'static [Row] {
+    &THIRD_PART
+}
+
+pub fn fourth_part() -> &'static [Row] {
+    &FOURTH_PART
 }

@@ -1,7 +1,7 @@
 //! Texts of the second version with what reading them gives.
 use super::Row;
 
-static SECOND: [Row; 111] = [
+static FIRST_PART: [Row; 28] = [
     Row {
         text: "vectors 2\n",
         answer: "no end",
@@ -114,6 +114,9 @@ static SECOND: [Row; 111] = [
         text: "vectors 2\ninputs s r\n0 01\nrepeat 2 10 20\n0 11\n5 10\nexpect 9 1-\nendrepeat\nend 281474976710657\n",
         answer: "limit 9",
     },
+];
+
+static SECOND_PART: [Row; 28] = [
     Row {
         text: "vectors 2\ninputs s r\n0 01\nrepeat 2 10 20\n0 11\n5 10\nexpect 9 1-\n",
         answer: "no end",
@@ -226,6 +229,9 @@ static SECOND: [Row; 111] = [
         text: "vectors 2\ninputs s r\nrepeat 1 0 9\nendrepeat\n",
         answer: "no end",
     },
+];
+
+static THIRD_PART: [Row; 28] = [
     Row {
         text: "vectors 2\ninputs s r\nend 9\nrepeat 1 9 9\n",
         answer: "bad line 4",
@@ -338,6 +344,9 @@ static SECOND: [Row; 111] = [
         text: "vectors 2\ninputs s r\nrepeat 4194304 0 1\nexpect 0 0000_0000_0000_0000\nendrepeat\nend 9999999\n",
         answer: "limit 5",
     },
+];
+
+static FOURTH_PART: [Row; 27] = [
     Row {
         text: "vectors 2\ninputs s r\nrepeat 4194304 0 9\n0 0000000\n1 0000000\nstrobe 1\nendrepeat\nend 99999999\n",
         answer: "limit 7",
@@ -448,6 +457,18 @@ static SECOND: [Row; 111] = [
     },
 ];
 
-pub fn second_rows() -> &'static [Row] {
-    &SECOND
+pub fn first_part() -> &'static [Row] {
+    &FIRST_PART
+}
+
+pub fn second_part() -> &'static [Row] {
+    &SECOND_PART
+}
+
+pub fn third_part() -> &'static [Row] {
+    &THIRD_PART
+}
+
+pub fn fourth_part() -> &'static [Row] {
+    &FOURTH_PART
 }
