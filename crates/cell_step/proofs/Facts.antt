@@ -24,7 +24,7 @@ use Rattle.flat_net.specs.declared.parts.Drive.{Drive}
 use Rattle.flat_net.specs.declared.parts.Island.{Island}
 use Rattle.flat_net.specs.declared.parts.Parts.{Parts}
 use Rattle.flat_net.specs.Elements.{IsElement, HasPinsOf, end_nets, joins_ends}
-use Rattle.flat_net.specs.Islands.{IsIsland, IsLink, HasCharge, combining}
+use Rattle.flat_net.specs.Islands.{IsIsland, IsLink, HasCharge, combination_kind}
 use Rattle.flat_net.specs.Soundness.{IsSound, IsNet}
 use Rattle.flat_net.proofs.Somes.{some_of, and_some}
 use Rattle.flat_net.proofs.ElementDecisions.{all_right}
@@ -159,11 +159,11 @@ module _ (parts : Parts) (sound : IsSound parts) where
         let found = place-part place within in
         ap (λ (part : NetPart). part.island) (get_or_from_slice_get parts.nets _ found.0 no_net found.1) ∙ found.2.0
 
-    pub place-kind : (place : ℕ) → place < length island.nets → slice_index_or island.shape.kinds place Plain ≡ combining (part_at parts island place).kind
+    pub place-kind : (place : ℕ) → place < length island.nets → slice_index_or island.shape.kinds place Plain ≡ combination_kind (part_at parts island place).kind
     place-kind place within =
-        let found = some_of (λ (part : NetPart). slice_index_or island.shape.kinds place Plain ≡ combining part.kind) _
+        let found = some_of (λ (part : NetPart). slice_index_or island.shape.kinds place Plain ≡ combination_kind part.kind) _
         (zip-at _ island.nets island.shape.kinds place 0 Plain island-is.kinds within) in
-        found.2 ∙ ap (λ (part : NetPart). combining part.kind) (sym (get_or_from_slice_get parts.nets _ found.0 no_net found.1))
+        found.2 ∙ ap (λ (part : NetPart). combination_kind part.kind) (sym (get_or_from_slice_get parts.nets _ found.0 no_net found.1))
 
     pub place-level : (place : ℕ) → place < length island.nets → slice_index_or island.shape.charge place 0 ≡ (part_at parts island place).charge
     place-level place within =
@@ -193,7 +193,7 @@ module _ (parts : Parts) (sound : IsSound parts) where
         (level-of (part_at parts island place).kind (part_at parts island place).charge (place-net place inside).charge)
 
     -- a net that isn't plain is alone
-    alone : (place : ℕ) → place < length island.nets → ¬ (combining (part_at parts island place).kind ≡ Plain) →
+    alone : (place : ℕ) → place < length island.nets → ¬ (combination_kind (part_at parts island place).kind ≡ Plain) →
         (length island.nets ≡ 1) × (island.links ≡ [])
     alone place within wired =
         let found = some_of (λ (i : Island). (length i.nets ≡ 1) × (i.links ≡ [])) _ ((place-net place within).alone wired) in

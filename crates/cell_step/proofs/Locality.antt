@@ -9,7 +9,7 @@ use Rattle.flat_net.specs.declared.parts.Drive.{Drive}
 use Rattle.flat_net.specs.declared.parts.Element.{Element}
 use Rattle.flat_net.specs.declared.parts.Island.{Island}
 use Rattle.flat_net.specs.declared.parts.Parts.{Parts}
-use Rattle.flat_net.specs.Islands.{combining}
+use Rattle.flat_net.specs.Islands.{combination_kind}
 use Rattle.cell_step.specs.declared.states.ElementState.{ElementState}
 use Rattle.cell_step.specs.declared.states.IslandState.{IslandState}
 use Rattle.cell_step.specs.Readings.{Readings, AgreeAtElement, AgreeAtIsland, element_at, island_at, net_at}
@@ -52,9 +52,9 @@ module _ (parts : Parts) (r s : Readings) (patch : Patch) (island : Island) (agr
   own_signal-agree place lt =
       let net = slice_index_or island.nets place 0 in
       let kind = (net_at parts net).kind in
-      ap (λ x. unless_stuck (net_stuck patch net) (combination_of (combining kind) (own_driver kind ∷ x ∷ drives_at r island.drives place)))
+      ap (λ x. unless_stuck (net_stuck patch net) (combination_of (combination_kind kind) (own_driver kind ∷ x ∷ drives_at r island.drives place)))
       (agree.inputs place 0 lt)
-      ∙ ap (λ xs. unless_stuck (net_stuck patch net) (combination_of (combining kind) (own_driver kind ∷ s.input net ∷ xs)))
+      ∙ ap (λ xs. unless_stuck (net_stuck patch net) (combination_of (combination_kind kind) (own_driver kind ∷ s.input net ∷ xs)))
       (drives-agree place)
 
   own_signals-agree : own_signals parts r patch island ≡ own_signals parts s patch island

@@ -18,7 +18,7 @@ use Rattle.flat_net.specs.declared.kinds.Patch.TheVariants.{Whole, NetStuck, InS
 use Rattle.flat_net.specs.declared.parts.Drive.{Drive}
 use Rattle.flat_net.specs.declared.parts.Island.{Island}
 use Rattle.flat_net.specs.declared.parts.Parts.{Parts}
-use Rattle.flat_net.specs.Islands.{combining}
+use Rattle.flat_net.specs.Islands.{combination_kind}
 use Rattle.cell_step.specs.Readings.{Readings, net_at}
 use Rattle.cell_step.specs.Islands.{own_driver, drives_at, net_stuck, unless_stuck, part_at, own_signal, own_signals}
 use Rattle.cell_step.specs.Owns.{place_signal, driver_signals, stick_nets, HasKinds}
@@ -31,11 +31,11 @@ join-first kind s is = (combination-law kind).one s is
 
 -- with no drives there are the net's own driver and the input
 pub first-is : (parts : Parts) (r : Readings) (island : Island) (place : ℕ) →
-    join_of (combining (part_at parts island place).kind) (own_driver (part_at parts island place).kind) (r.input (slice_index_or island.nets place 0))
+    join_of (combination_kind (part_at parts island place).kind) (own_driver (part_at parts island place).kind) (r.input (slice_index_or island.nets place 0))
     ≡ place_signal parts r island [] place
 first-is parts r island place =
     let kind = (part_at parts island place).kind in
-    ap (λ s. join_of (combining kind) s (r.input (slice_index_or island.nets place 0))) (sym (join-first (combining kind) (own_driver kind) (own_driver-is kind)))
+    ap (λ s. join_of (combination_kind kind) s (r.input (slice_index_or island.nets place 0))) (sym (join-first (combination_kind kind) (own_driver kind) (own_driver-is kind)))
 
 fold-append : {A B : Type 0} (f : B → A → B) (z : B) (xs : List A) (y : A) → fold f z (xs ++ y ∷ []) ≡ f (fold f z xs) y
 fold-append f z [] y = refl
@@ -68,13 +68,13 @@ module _ (parts : Parts) (r : Readings) (island : Island) (drives : List Drive) 
 
   place-more : (place : ℕ) → drive.place ≡ place →
       place_signal parts r island (take (k + 1) drives) place
-      ≡ join_of (combining (part_at parts island place).kind) (place_signal parts r island (take k drives) place) driven
+      ≡ join_of (combination_kind (part_at parts island place).kind) (place_signal parts r island (take k drives) place) driven
   place-more place here =
       let kind = (part_at parts island place).kind in
       let e : nat_eq drive.place place ≡ true = grind (arith) in
-      ap (λ l. combination_of (combining kind) (own_driver kind ∷ r.input (slice_index_or island.nets place 0) ∷ l))
+      ap (λ l. combination_of (combination_kind kind) (own_driver kind ∷ r.input (slice_index_or island.nets place 0) ∷ l))
       (drives-more place ∙ ap (λ b. drives_at r (take k drives) place ++ cond b (driven ∷ []) []) e)
-      ∙ fold-append (join_of (combining kind)) undriven
+      ∙ fold-append (join_of (combination_kind kind)) undriven
       (own_driver kind ∷ r.input (slice_index_or island.nets place 0) ∷ drives_at r (take k drives) place) driven
 
   place-other : (place : ℕ) → drive.place ≢ place →
@@ -82,7 +82,7 @@ module _ (parts : Parts) (r : Readings) (island : Island) (drives : List Drive) 
   place-other place other =
       let kind = (part_at parts island place).kind in
       let e : nat_eq drive.place place ≡ false = grind (arith) in
-      ap (λ l. combination_of (combining kind) (own_driver kind ∷ r.input (slice_index_or island.nets place 0) ∷ l))
+      ap (λ l. combination_of (combination_kind kind) (own_driver kind ∷ r.input (slice_index_or island.nets place 0) ∷ l))
       (drives-more place ∙ ap (λ b. drives_at r (take k drives) place ++ cond b (driven ∷ []) []) e ∙ append-nil (drives_at r (take k drives) place))
 
   signals-at : (some : List Drive) (place : ℕ) (d : Signal) → place < length island.nets →
@@ -91,7 +91,7 @@ module _ (parts : Parts) (r : Readings) (island : Island) (drives : List Drive) 
 
   -- one more drive is joined to the signal of its place
   pub driver_signals-more : (joined : Signal) → drive.place < length island.nets →
-      joined ≡ join_of (combining (part_at parts island drive.place).kind)
+      joined ≡ join_of (combination_kind (part_at parts island drive.place).kind)
       (get_or (driver_signals parts r island (take k drives)) drive.place undriven) driven →
       slice_set (driver_signals parts r island (take k drives)) drive.place joined ≡ driver_signals parts r island (take (k + 1) drives)
   driver_signals-more joined inside joins =
@@ -106,7 +106,7 @@ module _ (parts : Parts) (r : Readings) (island : Island) (drives : List Drive) 
             ap (λ i. get_or (slice_set before drive.place joined) i d) e
             ∙ get_or-set_same before drive.place joined d (let b = length-driver_signals parts r island (take k drives) in omega arith)
             ∙ joins
-            ∙ ap (λ s. join_of (combining (part_at parts island drive.place).kind) s driven) (signals-at (take k drives) drive.place undriven inside)
+            ∙ ap (λ s. join_of (combination_kind (part_at parts island drive.place).kind) s driven) (signals-at (take k drives) drive.place undriven inside)
             ∙ sym (place-more drive.place refl)
             ∙ sym (signals-at (take (k + 1) drives) drive.place d inside)
             ∙ ap (λ i. get_or after i d) (sym e)
@@ -167,8 +167,8 @@ module _ (parts : Parts) (r : Readings) (island : Island) (drives : List Drive) 
       result turn-inside
       (ap (λ l. join_of (slice_index_or l turn.place Plain) (signal_at own turn.place) driven) same_kinds
       ∙ ap (λ kind. join_of kind (signal_at own turn.place) driven) (has turn.place turn-inside)
-      ∙ ap (λ l. join_of (combining (part_at parts island turn.place).kind) (signal_at l turn.place) driven) joined
-      ∙ ap (λ s. join_of (combining (part_at parts island turn.place).kind)
+      ∙ ap (λ l. join_of (combination_kind (part_at parts island turn.place).kind) (signal_at l turn.place) driven) joined
+      ∙ ap (λ s. join_of (combination_kind (part_at parts island turn.place).kind)
       (signal_at (driver_signals parts r island (take k island.drives)) turn.place) s) drives_it)
 
 -- a patch that sticks no net

@@ -30,7 +30,7 @@ use Rattle.flat_net.specs.declared.parts.Drive.{Drive}
 use Rattle.flat_net.specs.declared.parts.Element.{Element}
 use Rattle.flat_net.specs.declared.parts.Island.{Island}
 use Rattle.flat_net.specs.declared.parts.Parts.{Parts}
-use Rattle.flat_net.specs.Islands.{combining}
+use Rattle.flat_net.specs.Islands.{combination_kind}
 use Rattle.cell_step.specs.declared.states.ElementState.{ElementState}
 use Rattle.cell_step.specs.Readings.{Readings, net_at}
 use Rattle.cell_step.specs.Elements.{bit_value, stuck_signal, input_stuck, pin_signal, signals_from, input_signals, input_at, mos_signal, signal_of_kind, start_signal, start_value, drive_at}
@@ -164,7 +164,7 @@ own_signal-is parts r are patch island place =
     let net = slice_index_or island.nets place 0 in
     let kind = (net_at parts net).kind in
     unless_stuck-is (net_stuck patch net) (driver_signal r island kind net place)
-    ((combination-law (combining kind)).signal (drivers r island kind net place) (drivers-are r are island kind net place))
+    ((combination-law (combination_kind kind)).signal (drivers r island kind net place) (drivers-are r are island kind net place))
 
 pub own_signals-are : (parts : Parts) (r : Readings) → AreReadings r → (patch : Patch) (island : Island) → All IsSignal (own_signals parts r patch island)
 own_signals-are parts r are patch island =

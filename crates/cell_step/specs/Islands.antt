@@ -13,7 +13,7 @@ use Rattle.flat_net.specs.declared.parts.NetPart.{NetPart}
 use Rattle.flat_net.specs.declared.parts.Drive.{Drive}
 use Rattle.flat_net.specs.declared.parts.Island.{Island}
 use Rattle.flat_net.specs.declared.parts.Parts.{Parts}
-use Rattle.flat_net.specs.Islands.{combining}
+use Rattle.flat_net.specs.Islands.{combination_kind}
 use Rattle.cell_step.specs.declared.states.NetState.{NetState}
 use Rattle.cell_step.specs.declared.states.IslandState.{IslandState}
 use Rattle.cell_step.specs.Readings.{Readings, net_at, island_at}
@@ -42,7 +42,7 @@ drivers r island kind net place = own_driver kind ∷ r.input net ∷ drives_at 
 
 -- the combination of the drivers of a net (IEEE 1364-2005, 7.10)
 abbrev pub driver_signal : Readings → Island → NetKind → ℕ → ℕ → Signal
-driver_signal r island kind net place = combination_of (combining kind) (drivers r island kind net place)
+driver_signal r island kind net place = combination_of (combination_kind kind) (drivers r island kind net place)
 
 -- at what a net is stuck
 abbrev pub net_stuck : Patch → ℕ → Option Bool

@@ -11,7 +11,7 @@ use Rattle.flat_net.specs.declared.kinds.Patch.{Patch}
 use Rattle.flat_net.specs.declared.parts.Drive.{Drive}
 use Rattle.flat_net.specs.declared.parts.Island.{Island}
 use Rattle.flat_net.specs.declared.parts.Parts.{Parts}
-use Rattle.flat_net.specs.Islands.{combining}
+use Rattle.flat_net.specs.Islands.{combination_kind}
 use Rattle.cell_step.specs.declared.states.IslandState.{IslandState}
 use Rattle.cell_step.specs.Readings.{Readings, AreNetsOf, AreDrivesOf, AreSwitchesOf}
 use Rattle.cell_step.specs.Islands.{own_driver, drives_at, net_stuck, unless_stuck, part_at, charges_of}
@@ -19,7 +19,7 @@ use Rattle.cell_step.specs.Islands.{own_driver, drives_at, net_stuck, unless_stu
 -- the signal of a place with some of the drives
 abbrev pub place_signal : Parts → Readings → Island → List Drive → ℕ → Signal
 place_signal parts r island drives place =
-    combination_of (combining (part_at parts island place).kind)
+    combination_of (combination_kind (part_at parts island place).kind)
     (own_driver (part_at parts island place).kind ∷ r.input (slice_index_or island.nets place 0) ∷ drives_at r drives place)
 
 -- the signals of all places with some of the drives
@@ -35,7 +35,7 @@ stick_nets patch nets signals =
 -- each kind of an island's shape is how the drivers of the net at its place are combined
 abbrev pub HasKinds : Parts → Island → Type 0
 HasKinds parts island =
-    (place : ℕ) → place < length island.nets → slice_index_or island.shape.kinds place Plain ≡ combining (part_at parts island place).kind
+    (place : ℕ) → place < length island.nets → slice_index_or island.shape.kinds place Plain ≡ combination_kind (part_at parts island place).kind
 
 -- what the part of an island in a pass needs to know of the island and of its state
 pub record CanSettle (parts : Parts) (island : Island) (s : IslandState) : Type 0 where

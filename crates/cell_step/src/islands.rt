@@ -1,7 +1,7 @@
 ghost use Rattle.std.specs.Prelude.{◌≡◌, ◌<◌, ◌≤◌, ◌^◌, [], length, map, slice_index_or, slice_set, All};
 ghost use Rattle.level_range.specs.Combine.{join_of};
 ghost use Rattle.net_settle.specs.Charges.{signal_at};
-ghost use Rattle.flat_net.specs.Islands.{combining as combining_of};
+ghost use Rattle.flat_net.specs.Islands.{combination_kind as combination_kind_of};
 ghost use Rattle.cell_step.specs.Readings.{AreDrivesOf, AreNetsOf, AreSwitchesOf, net_at};
 ghost use Rattle.cell_step.specs.Elements.{bit_value as bit_value_of, stuck_signal as stuck_signal_of};
 ghost use Rattle.cell_step.specs.Islands.{own_driver as own_driver_of, own_signals as own_signals_of, charges_of, nets_after, next_island};
@@ -17,8 +17,8 @@ use level_range::{Conduct, Kind, Logic, Range, join, span};
 use net_settle::{Scratch, settle};
 
 /// How the drivers of a net are combined.
-fn combining(kind: NetKind) -> Kind
-    ensures { result ≡ combining_of kind }
+fn combination_kind(kind: NetKind) -> Kind
+    ensures { result ≡ combination_kind_of kind }
 {
     match kind {
         NetKind::And => Kind::And,
@@ -50,11 +50,11 @@ fn first_signal<V: View>(flat: &Flat, net: u32, view: &V) -> Range
     requires view { V.View.netlist view.now ≡ flat.now }
     requires net { net < length flat.now.parts.nets }
     ensures { result
-        ≡ join_of (combining_of (net_at flat.now.parts net).kind)
+        ≡ join_of (combination_kind_of (net_at flat.now.parts net).kind)
         (own_driver_of (net_at flat.now.parts net).kind) ((V.View.readings view.now).input net) }
 {
     let kind = flat.net(net).kind;
-    join(own_driver(kind), view.input(net), combining(kind))
+    join(own_driver(kind), view.input(net), combination_kind(kind))
 }
 
 /// What the nets' own drivers and the inputs in force drive.

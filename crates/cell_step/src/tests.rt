@@ -107,7 +107,7 @@ fn has_output(flat: &Flat, pin: u32) -> bool
 }
 
 /// The element when the changes of this tick have taken effect.
-fn matured(state: &ElementState, now: u64) -> ElementState
+fn mature_state(state: &ElementState, now: u64) -> ElementState
     ensures { (parts : Parts) (number : ℕ) → FitsElement parts number state.now
         → FitsElement parts number result }
 {
@@ -182,10 +182,10 @@ fn step<L: Ledger>(
         flat,
         signals: signals.as_slice(),
     };
-    let mut state = matured(state, pass.now);
+    let mut state = mature_state(state, pass.now);
     element_step(flat, 0, case.patch, &mut state, &view, pass.now, steps);
     assert_eq!(rt; pending(&state), pass.pending, "case {n}");
-    Ok(matured(&state, pass.now))
+    Ok(mature_state(&state, pass.now))
 }
 
 /// The start of the element, and its passes.

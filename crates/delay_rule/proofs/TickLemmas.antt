@@ -5,18 +5,18 @@ use Rattle.std.proofs.Math.Nat.{mul_assoc, mul_comm, pow-suc, pow-succ', le-mul_
 use Rattle.std.proofs.lemmas.Bool.{cases_lt}
 use Rattle.std.proofs.lemmas.Bool.Decides.{nat_tests}
 use Rattle.std.proofs.lemmas.List.{take_min}
-use Rattle.delay_rule.specs.Ticks.{number_after, number, digits_to, half_up, rounded, delay_in_ticks}
+use Rattle.delay_rule.specs.Ticks.{number_after, number, digits_to, half_up, rounded_amount, delay_in_ticks}
 
 one_digit : (bound n digit : ℕ) → min (10 * min n bound + digit) bound ≡ min (10 * n + digit) bound
 one_digit bound n digit = omega arith
 
 -- more digits behind a number that was cut to the bound
-pub number_after-bounded : (bound n : ℕ) (digits : List ℕ) → min (number_after (min n bound) digits) bound ≡ min (number_after n digits) bound
-number_after-bounded bound n [] = omega arith
-number_after-bounded bound n (digit ∷ digits) =
-    sym (number_after-bounded bound (10 * min n bound + digit) digits)
+pub number_after-cap : (bound n : ℕ) (digits : List ℕ) → min (number_after (min n bound) digits) bound ≡ min (number_after n digits) bound
+number_after-cap bound n [] = omega arith
+number_after-cap bound n (digit ∷ digits) =
+    sym (number_after-cap bound (10 * min n bound + digit) digits)
     ∙ ap (λ (m : ℕ). min (number_after m digits) bound) (one_digit bound n digit)
-    ∙ number_after-bounded bound (10 * n + digit) digits
+    ∙ number_after-cap bound (10 * n + digit) digits
 
 pub number_after-append : (n : ℕ) (xs ys : List ℕ) → number_after n (xs ++ ys) ≡ number_after (number_after n xs) ys
 number_after-append n [] ys = refl
@@ -35,9 +35,9 @@ cut_sum : (bound n m : ℕ) → min (min n bound + m) bound ≡ min (n + m) boun
 cut_sum bound n m = omega arith
 
 -- a product of a number that was cut to the bound
-pub times-bounded : (bound n m : ℕ) → min (min n bound * m) bound ≡ min (n * m) bound
-times-bounded bound n zero = omega arith
-times-bounded bound n (suc m) = elim (cases_lt bound n) [
+pub times-cap : (bound n m : ℕ) → min (min n bound * m) bound ≡ min (n * m) bound
+times-cap bound n zero = omega arith
+times-cap bound n (suc m) = elim (cases_lt bound n) [
   | inl lt ↦
       let cut : min n bound ≡ bound = omega arith in
       let own : bound ≤ bound * suc m = le-mul_of_pos_right bound (omega arith) in
@@ -49,10 +49,10 @@ times-bounded bound n (suc m) = elim (cases_lt bound n) [
 ]
 
 -- the number that the first k digits of a fraction continue, up to the bound
-pub rounded-bounded : (bound : ℕ) (whole fraction : List ℕ) (k : ℕ) →
+pub rounded_amount-cap : (bound : ℕ) (whole fraction : List ℕ) (k : ℕ) →
     min (min (min (number_after (min (number_after 0 whole) bound) (take (min (length fraction) k) fraction)) bound * 10 ^ (k - min (length fraction) k)) bound + half_up (drop k fraction)) bound
-    ≡ min (rounded whole fraction k) bound
-rounded-bounded bound whole fraction k =
+    ≡ min (rounded_amount whole fraction k) bound
+rounded_amount-cap bound whole fraction k =
     let few : k - min (length fraction) k ≡ k - length fraction = omega arith in
     let front : take (min (length fraction) k) fraction ≡ take k fraction = ap (λ (m : ℕ). take m fraction) (flip (length fraction) k) ∙ take_min k fraction in
     let digits : number (whole ++ digits_to k fraction) ≡ number_after (number_after (number_after 0 whole) (take k fraction)) (replicate (k - length fraction) 0)
@@ -60,12 +60,12 @@ rounded-bounded bound whole fraction k =
     let zeros : number (whole ++ digits_to k fraction) ≡ number_after (number_after 0 whole) (take k fraction) * 10 ^ (k - length fraction)
     = digits ∙ number_after-zeros (number_after (number_after 0 whole) (take k fraction)) (k - length fraction) in
     let one : min (number_after (min (number_after 0 whole) bound) (take (min (length fraction) k) fraction)) bound ≡ min (number_after (number_after 0 whole) (take k fraction)) bound
-    = ap (λ (ds : List ℕ). min (number_after (min (number_after 0 whole) bound) ds) bound) front ∙ number_after-bounded bound (number_after 0 whole) (take k fraction) in
+    = ap (λ (ds : List ℕ). min (number_after (min (number_after 0 whole) bound) ds) bound) front ∙ number_after-cap bound (number_after 0 whole) (take k fraction) in
     let two : min (min (number_after (min (number_after 0 whole) bound) (take (min (length fraction) k) fraction)) bound * 10 ^ (k - min (length fraction) k)) bound
     ≡ min (number (whole ++ digits_to k fraction)) bound
     = ap (λ (x : ℕ). min (x * 10 ^ (k - min (length fraction) k)) bound) one
     ∙ ap (λ (z : ℕ). min (min (number_after (number_after 0 whole) (take k fraction)) bound * 10 ^ z) bound) few
-    ∙ times-bounded bound (number_after (number_after 0 whole) (take k fraction)) (10 ^ (k - length fraction))
+    ∙ times-cap bound (number_after (number_after 0 whole) (take k fraction)) (10 ^ (k - length fraction))
     ∙ ap (λ (x : ℕ). min x bound) (sym zeros) in
     ap (λ (x : ℕ). min (x + half_up (drop k fraction)) bound) two ∙ cut_sum bound (number (whole ++ digits_to k fraction)) (half_up (drop k fraction))
 
@@ -83,8 +83,8 @@ past n le =
     ap (λ (b : Bool). cond b (Some n) None) over
 
 -- a delay is past the greatest where its count up to the bound is
-pub delay-bounded : (n : ℕ) → delay_in_ticks (min n 2147483648) ≡ delay_in_ticks n
-delay-bounded n = elim (cases_lt n 2147483648) [
+pub delay-cap : (n : ℕ) → delay_in_ticks (min n 2147483648) ≡ delay_in_ticks n
+delay-cap n = elim (cases_lt n 2147483648) [
   | inl lt ↦ let same : min n 2147483648 ≡ n = omega arith in ap delay_in_ticks same
   | inr le ↦
       let cut : min n 2147483648 ≡ 2147483648 = omega arith in

@@ -29,13 +29,13 @@ abbrev pub places : ℤ → ℤ → ℕ
 places above below = unsigned_abs (above -ℤ below)
 
 -- the amount in units of the precision, rounded
-abbrev pub rounded : List ℕ → List ℕ → ℕ → ℕ
-rounded whole fraction k = number (whole ++ digits_to k fraction) + half_up (drop k fraction)
+abbrev pub rounded_amount : List ℕ → List ℕ → ℕ → ℕ
+rounded_amount whole fraction k = number (whole ++ digits_to k fraction) + half_up (drop k fraction)
 
 -- the delay in ticks
 abbrev pub ticks_of : List ℕ → List ℕ → ℤ → ℤ → ℤ → ℕ
 ticks_of whole fraction unit precision tick =
-    rounded whole fraction (places unit precision) * 10 ^ places precision tick
+    rounded_amount whole fraction (places unit precision) * 10 ^ places precision tick
 
 -- the delay in ticks, none where it is 2^31 or more
 abbrev pub delay_in_ticks : ℕ → Option ℕ

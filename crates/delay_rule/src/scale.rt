@@ -1,11 +1,11 @@
 ghost use Rattle.std.specs.Prelude.{◌≡◌, ◌*◌, ◌^◌, ◌≤◌, ◌≤ℤ◌, drop, min, negsuc, pos};
-ghost use Rattle.delay_rule.specs.Ticks.{AreDigits, delay_in_ticks, half_up as half_up_of, number_after, places as places_of, rounded as rounded_of, ticks_of};
+ghost use Rattle.delay_rule.specs.Ticks.{AreDigits, delay_in_ticks, half_up as half_up_of, number_after, places as places_of, rounded_amount as rounded_amount_of, ticks_of};
 
 /// What is above every delay, at which counting stops.
 const TOO_LONG: u64 = 1 << 31;
 
 /// The number, or the bound where it is above.
-fn bounded(value: u64) -> u64
+fn cap(value: u64) -> u64
     ensures { result ≡ min value (2 ^ 31) }
 {
     value.min(TOO_LONG)
@@ -19,7 +19,7 @@ fn with_digits(number: u64, digits: &[u8]) -> u64
 {
     let mut value = number;
     for digit in digits {
-        value = bounded(10 * value + u64::from(*digit));
+        value = cap(10 * value + u64::from(*digit));
     }
     value
 }
@@ -31,7 +31,7 @@ fn with_zeros(number: u64, count: usize) -> u64
 {
     let mut value = number;
     for _zeros in 0..count {
-        value = bounded(10 * value);
+        value = cap(10 * value);
     }
     value
 }
@@ -47,14 +47,14 @@ fn half_up(fraction: &[u8], k: usize) -> u64
 }
 
 /// An amount rounded behind `k` digits of its fraction, up to the bound.
-fn rounded(whole: &[u8], fraction: &[u8], k: usize) -> u64
+fn rounded_amount(whole: &[u8], fraction: &[u8], k: usize) -> u64
     requires whole { AreDigits whole.now }
     requires fraction { AreDigits fraction.now }
-    ensures { result ≡ min (rounded_of whole.now fraction.now k) (2 ^ 31) }
+    ensures { result ≡ min (rounded_amount_of whole.now fraction.now k) (2 ^ 31) }
 {
     let written = fraction.len().min(k);
     let amount = with_digits(with_digits(0, whole), &fraction[..written]);
-    bounded(with_zeros(amount, k - written) + half_up(fraction, k))
+    cap(with_zeros(amount, k - written) + half_up(fraction, k))
 }
 
 /// How many powers of ten lie between two exponents.
@@ -92,6 +92,6 @@ pub fn ticks(whole: &[u8], fraction: &[u8], unit: i8, precision: i8, tick: i8) -
     requires greatest { unit ≤ℤ pos 2 }
     ensures { result ≡ delay_in_ticks (ticks_of whole.now fraction.now unit precision tick) }
 {
-    let amount = rounded(whole, fraction, places(unit, precision));
+    let amount = rounded_amount(whole, fraction, places(unit, precision));
     delay(with_zeros(amount, places(precision, tick)))
 }

@@ -15,7 +15,7 @@ use Rattle.flat_net.specs.declared.parts.NetPart.{NetPart}
 use Rattle.flat_net.specs.declared.parts.Element.{Element}
 use Rattle.flat_net.specs.declared.parts.Drive.{Drive}
 use Rattle.flat_net.specs.declared.parts.Island.{Island}
-use Rattle.flat_net.specs.Islands.{combining, HasCharge, IsDrive, IsLink, IsIsland}
+use Rattle.flat_net.specs.Islands.{combination_kind, HasCharge, IsDrive, IsLink, IsIsland}
 use Rattle.flat_net.specs.Soundness.{IsNet}
 use Rattle.flat_net.specs.Lists.{EachAt}
 use Rattle.flat_net.specs.Tests.{some_and, all_at, all_zip, same_kind, is_plain, has_charge, is_at, is_alone, is_net, stands_at, is_drive, is_link, has_kind, has_level, is_island}
@@ -70,11 +70,11 @@ Decides-is_at numbers k number = Decides-like (is_at numbers k number) (some_sam
 
 -- a net stands alone in its island unless it is plain
 abbrev IsAlone : NetKind → Island → Type 0
-IsAlone kind island = (combining kind ≡ Plain) ⊎ ((length island.nets ≡ 1) × (length island.links ≡ 0))
+IsAlone kind island = (combination_kind kind ≡ Plain) ⊎ ((length island.nets ≡ 1) × (length island.links ≡ 0))
 
 Decides-is_alone : (kind : NetKind) (island : Island) → Decides (is_alone kind island) (IsAlone kind island)
 Decides-is_alone kind island =
-    Decides-or (is_plain (combining kind)) ((length island.nets == 1) && (length island.links == 0)) (Decides-same_kind (combining kind) Plain)
+    Decides-or (is_plain (combination_kind kind)) ((length island.nets == 1) && (length island.links == 0)) (Decides-same_kind (combination_kind kind) Plain)
     (Decides-and (length island.nets == 1) (length island.links == 0) (Decides-eqb (length island.nets) 1) (Decides-eqb (length island.links) 0))
 
 -- the island holds the net alone
@@ -85,23 +85,23 @@ module _ (kind : NetKind) (place number : ℕ) where
   abbrev HasPlace : Island → Type 0
   HasPlace island = slice_get island.nets place ≡ Some number
 
-  alone_from : (island : Island) → IsAlone kind island → (combining kind ≡ Plain → ⊥) → HoldsAlone island
+  alone_from : (island : Island) → IsAlone kind island → (combination_kind kind ≡ Plain → ⊥) → HoldsAlone island
   alone_from island (inl plain) not_plain = absurd (not_plain plain)
   alone_from island (inr h) not_plain = (h.0, nil_from_length island.links h.1)
 
-  alone_by : (island : Island) (plain : Bool) → Decides plain (combining kind ≡ Plain) → ((combining kind ≡ Plain → ⊥) → HoldsAlone island) → IsAlone kind island
+  alone_by : (island : Island) (plain : Bool) → Decides plain (combination_kind kind ≡ Plain) → ((combination_kind kind ≡ Plain → ⊥) → HoldsAlone island) → IsAlone kind island
   alone_by island true d h = inl (d.0 refl)
   alone_by island false d h =
       let held = h (λ e. let f : false ≡ true = d.1 e in cc) in
       inr (held.0, ap (λ (xs : List ℕ). length xs) held.1)
 
-  split : (o : Option Island) → IsSomeAnd o (λ island. HasPlace island × IsAlone kind island) → IsSomeAnd o HasPlace × ((combining kind ≡ Plain → ⊥) → IsSomeAnd o HoldsAlone)
+  split : (o : Option Island) → IsSomeAnd o (λ island. HasPlace island × IsAlone kind island) → IsSomeAnd o HasPlace × ((combination_kind kind ≡ Plain → ⊥) → IsSomeAnd o HoldsAlone)
   split None h = absurd h
   split (Some island) h = (h.0, alone_from island h.1)
 
-  merge : (o : Option Island) → IsSomeAnd o HasPlace → ((combining kind ≡ Plain → ⊥) → IsSomeAnd o HoldsAlone) → IsSomeAnd o (λ island. HasPlace island × IsAlone kind island)
+  merge : (o : Option Island) → IsSomeAnd o HasPlace → ((combination_kind kind ≡ Plain → ⊥) → IsSomeAnd o HoldsAlone) → IsSomeAnd o (λ island. HasPlace island × IsAlone kind island)
   merge None h f = absurd h
-  merge (Some island) h f = (h, alone_by island (same_kind (combining kind) Plain) (Decides-same_kind (combining kind) Plain) f)
+  merge (Some island) h f = (h, alone_by island (same_kind (combination_kind kind) Plain) (Decides-same_kind (combination_kind kind) Plain) f)
 
 module _ (islands : List Island) (number : ℕ) (part : NetPart) where
   abbrev Tested : Type 0
@@ -148,14 +148,14 @@ Decides-is_link elements nets element link =
     (slice_get elements element)
 
 abbrev HasKind : List NetPart → ℕ → Kind → Type 0
-HasKind nets net kind = IsSomeAnd (slice_get nets net) (λ part. kind ≡ combining part.kind)
+HasKind nets net kind = IsSomeAnd (slice_get nets net) (λ part. kind ≡ combination_kind part.kind)
 
 abbrev HasLevel : List NetPart → ℕ → ℕ → Type 0
 HasLevel nets net level = IsSomeAnd (slice_get nets net) (λ part. level ≡ part.charge)
 
 Decides-has_kind : (nets : List NetPart) (net : ℕ) (kind : Kind) → Decides (has_kind nets net kind) (HasKind nets net kind)
 Decides-has_kind nets net kind =
-    Decides-some_and (λ (part : NetPart). same_kind kind (combining part.kind)) (λ (part : NetPart). kind ≡ combining part.kind) (λ part. Decides-same_kind kind (combining part.kind)) (slice_get nets net)
+    Decides-some_and (λ (part : NetPart). same_kind kind (combination_kind part.kind)) (λ (part : NetPart). kind ≡ combination_kind part.kind) (λ part. Decides-same_kind kind (combination_kind part.kind)) (slice_get nets net)
 
 Decides-has_level : (nets : List NetPart) (net level : ℕ) → Decides (has_level nets net level) (HasLevel nets net level)
 Decides-has_level nets net level =

@@ -14,15 +14,15 @@ use Rattle.flat_net.specs.declared.parts.Drive.{Drive}
 use Rattle.flat_net.specs.declared.parts.Island.{Island}
 
 -- how the drivers of a net are combined, by its type
-abbrev pub combining : NetKind → Kind
-combining And = AndKind
-combining Or = OrKind
-combining Wire = Plain
-combining Tri0 = Plain
-combining Tri1 = Plain
-combining Supply0 = Plain
-combining Supply1 = Plain
-combining Trireg = Plain
+abbrev pub combination_kind : NetKind → Kind
+combination_kind And = AndKind
+combination_kind Or = OrKind
+combination_kind Wire = Plain
+combination_kind Tri0 = Plain
+combination_kind Tri1 = Plain
+combination_kind Supply0 = Plain
+combination_kind Supply1 = Plain
+combination_kind Trireg = Plain
 
 -- a trireg has a small, a medium or a large charge, and every other net none
 abbrev pub HasCharge : NetKind → ℕ → Type 0
@@ -53,7 +53,7 @@ pub record IsIsland (nets : List NetPart) (elements : List Element) (number : �
   pub places : EachAt (λ place net. IsSomeAnd (slice_get nets net) (λ part. (part.island ≡ number) × (part.place ≡ place))) island.nets
   pub drives : All (IsDrive elements island.nets) island.drives
   pub links : AllZip (IsLink elements island.nets) island.links island.shape.links
-  pub kinds : AllZip (λ net kind. IsSomeAnd (slice_get nets net) (λ part. kind ≡ combining part.kind)) island.nets island.shape.kinds
+  pub kinds : AllZip (λ net kind. IsSomeAnd (slice_get nets net) (λ part. kind ≡ combination_kind part.kind)) island.nets island.shape.kinds
   pub charge : AllZip (λ net level. IsSomeAnd (slice_get nets net) (λ part. level ≡ part.charge)) island.nets island.shape.charge
 
 -- the output pins that the drives of all islands name, each an element and its pin

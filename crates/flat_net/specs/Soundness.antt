@@ -6,7 +6,7 @@ use Rattle.net_groups.specs.Joins.{IsJoined}
 use Rattle.level_range.specs.declared.range.Kind.TheVariants.{Plain}
 use Rattle.flat_net.specs.Lists.{EachAt, AreDistinct}
 use Rattle.flat_net.specs.Elements.{IsElement, switch_ends}
-use Rattle.flat_net.specs.Islands.{IsIsland, HasCharge, combining, drive_pins, link_elements}
+use Rattle.flat_net.specs.Islands.{IsIsland, HasCharge, combination_kind, drive_pins, link_elements}
 use Rattle.flat_net.specs.declared.parts.NetPart.{NetPart}
 use Rattle.flat_net.specs.declared.parts.Island.{Island}
 use Rattle.flat_net.specs.declared.parts.Find.{Find}
@@ -24,7 +24,7 @@ island_of nets net = option_map (λ part. part.island) (slice_get nets net)
 pub record IsNet (islands : List Island) (number : ℕ) (part : NetPart) : Type 0 where
   pub charge : HasCharge part.kind part.charge
   pub place : IsSomeAnd (slice_get islands part.island) (λ island. slice_get island.nets part.place ≡ Some number)
-  pub alone : ¬ (combining part.kind ≡ Plain) → IsSomeAnd (slice_get islands part.island) (λ island. (length island.nets ≡ 1) × (island.links ≡ []))
+  pub alone : ¬ (combination_kind part.kind ≡ Plain) → IsSomeAnd (slice_get islands part.island) (λ island. (length island.nets ≡ 1) × (island.links ≡ []))
 
 -- the bytes of a name are ASCII
 abbrev pub IsAscii : List ℕ → Type 0

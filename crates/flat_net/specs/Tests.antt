@@ -14,7 +14,7 @@ use Rattle.flat_net.specs.declared.parts.Drive.{Drive}
 use Rattle.flat_net.specs.declared.parts.Find.{Find}
 use Rattle.flat_net.specs.declared.parts.Island.{Island}
 use Rattle.flat_net.specs.declared.parts.Parts.{Parts}
-use Rattle.flat_net.specs.Islands.{combining, drive_pins, link_elements}
+use Rattle.flat_net.specs.Islands.{combination_kind, drive_pins, link_elements}
 use Rattle.flat_net.specs.Soundness.{greatest_count}
 use Rattle.name_table.specs.Names.{is_distinct}
 use Rattle.udp_table.specs.Primitive.{Primitive}
@@ -101,7 +101,7 @@ is_at numbers k number = some_and (λ n. n == number) (slice_get numbers k)
 
 -- a plain net, or an island of one net without links
 abbrev pub is_alone : NetKind → Island → Bool
-is_alone kind island = is_plain (combining kind) || ((length island.nets == 1) && (length island.links == 0))
+is_alone kind island = is_plain (combination_kind kind) || ((length island.nets == 1) && (length island.links == 0))
 
 abbrev pub is_net : List Island → ℕ → NetPart → Bool
 is_net islands number part =
@@ -121,7 +121,7 @@ is_link elements nets element link =
     some_and (λ e. some_and (λ ends. is_at nets link.a ends.0 && is_at nets link.b ends.1) e.ends) (slice_get elements element)
 
 abbrev pub has_kind : List NetPart → ℕ → Kind → Bool
-has_kind nets net kind = some_and (λ part. same_kind kind (combining part.kind)) (slice_get nets net)
+has_kind nets net kind = some_and (λ part. same_kind kind (combination_kind part.kind)) (slice_get nets net)
 
 abbrev pub has_level : List NetPart → ℕ → ℕ → Bool
 has_level nets net level = some_and (λ part. level == part.charge) (slice_get nets net)

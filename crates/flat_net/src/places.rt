@@ -1,6 +1,6 @@
 ghost use Rattle.std.specs.Prelude.{◌≡◌};
 ghost use Rattle.std.specs.List.{list_all, zip};
-ghost use Rattle.flat_net.specs.Islands.{combining as combining_of};
+ghost use Rattle.flat_net.specs.Islands.{combination_kind as combination_kind_of};
 ghost use Rattle.flat_net.specs.Tests.{all_at, all_zip, has_charge as has_charge_of, has_kind as has_kind_of, has_level as has_level_of, is_alone as is_alone_of, is_at as is_at_of, is_drive as is_drive_of, is_island as is_island_of, is_link as is_link_of, is_net as is_net_of, stands_at as stands_at_of};
 
 use crate::kinds::NetKind;
@@ -9,8 +9,8 @@ use level_range::Kind;
 use net_settle::Link;
 
 /// How the drivers of a net are combined.
-fn combining(kind: NetKind) -> Kind
-    ensures { result ≡ combining_of kind }
+fn combination_kind(kind: NetKind) -> Kind
+    ensures { result ≡ combination_kind_of kind }
 {
     match kind {
         NetKind::And => Kind::And,
@@ -43,7 +43,7 @@ pub(crate) fn is_at(numbers: &[u32], k: usize, number: usize) -> bool
 fn is_alone(kind: NetKind, island: &Island) -> bool
     ensures { result ≡ is_alone_of kind island.now }
 {
-    combining(kind) == Kind::Plain
+    combination_kind(kind) == Kind::Plain
         || island.nets.as_slice().len() == 1 && island.links.as_slice().len() == 0
 }
 
@@ -145,7 +145,7 @@ fn has_kind(nets: &[NetPart], net: u32, kind: Kind) -> bool
     ensures { result ≡ has_kind_of nets.now net kind }
 {
     match nets.get(net as usize) {
-        Some(part) => kind == combining(part.kind),
+        Some(part) => kind == combination_kind(part.kind),
         None => false,
     }
 }

@@ -7,7 +7,7 @@ use Rattle.std.proofs.lemmas.List.{get_or-set_same, get_or-set_other, length-set
 use Rattle.std.proofs.lemmas.Option.{slice_get-get_or, slice_get_past}
 use Rattle.std.proofs.lemmas.Slice.Eq.{bytes_eq-Decides}
 use Rattle.name_table.specs.Names.{same_name, is_among, index_of}
-use Rattle.module_graph.specs.Numbers.{number_at, lesser, lesser_number, number_if, lowered}
+use Rattle.module_graph.specs.Numbers.{number_at, lesser, lesser_number, number_if, with_number}
 
 -- ---- indexes of names
 
@@ -89,34 +89,34 @@ one_index q name names k e f =
 module _ (names : List (List ℕ)) (numbers : List ℕ) (whole : length numbers ≡ length names) (name : List ℕ) (number : ℕ) (q : List ℕ) where
   -- under a name that is there
   module _ (k : ℕ) (found : index_of name names ≡ Some k) where
-    same_case : q ≡ name → number_at (lowered numbers k number) (index_of q names) ≡ lesser (number_at numbers (index_of q names)) (Some number)
+    same_case : q ≡ name → number_at (with_number numbers k number) (index_of q names) ≡ lesser (number_at numbers (index_of q names)) (Some number)
     same_case same =
         let at : index_of q names ≡ Some k = ap (λ (n : List ℕ). index_of n names) same ∙ found in
         let within : k < length names = (index_of_at name names k found).0 in
         let old : slice_get numbers k ≡ Some (get_or numbers k 0) = slice_get-get_or numbers k 0 (omega arith) in
-        let longer : k < length (lowered numbers k number) = omega (arith, length-set numbers k (lesser_number (get_or numbers k 0) number)) in
-        let new : slice_get (lowered numbers k number) k ≡ Some (get_or (lowered numbers k number) k 0) = slice_get-get_or (lowered numbers k number) k 0 longer in
-        ap (number_at (lowered numbers k number)) at ∙ new
+        let longer : k < length (with_number numbers k number) = omega (arith, length-set numbers k (lesser_number (get_or numbers k 0) number)) in
+        let new : slice_get (with_number numbers k number) k ≡ Some (get_or (with_number numbers k number) k 0) = slice_get-get_or (with_number numbers k number) k 0 longer in
+        ap (number_at (with_number numbers k number)) at ∙ new
         ∙ ap (λ (n : ℕ). Some n) (get_or-set_same numbers k (lesser_number (get_or numbers k 0) number) 0 (omega arith))
         ∙ sym (ap (λ (o : Option ℕ). lesser o (Some number)) (ap (number_at numbers) at ∙ old))
 
-    other_at : (j : ℕ) → (j ≡ k → ⊥) → slice_get (lowered numbers k number) j ≡ slice_get numbers j
+    other_at : (j : ℕ) → (j ≡ k → ⊥) → slice_get (with_number numbers k number) j ≡ slice_get numbers j
     other_at j apart = elim (cases_lt j (length numbers)) [
       | inl lt ↦
-          let longer : j < length (lowered numbers k number) = omega (arith, length-set numbers k (lesser_number (get_or numbers k 0) number)) in
-          slice_get-get_or (lowered numbers k number) j 0 longer
+          let longer : j < length (with_number numbers k number) = omega (arith, length-set numbers k (lesser_number (get_or numbers k 0) number)) in
+          slice_get-get_or (with_number numbers k number) j 0 longer
           ∙ ap (λ (n : ℕ). Some n) (get_or-set_other numbers k j (lesser_number (get_or numbers k 0) number) 0 apart)
           ∙ sym (slice_get-get_or numbers j 0 lt)
       | inr le ↦
-          slice_get_past (lowered numbers k number) j (omega (arith, length-set numbers k (lesser_number (get_or numbers k 0) number)))
+          slice_get_past (with_number numbers k number) j (omega (arith, length-set numbers k (lesser_number (get_or numbers k 0) number)))
           ∙ sym (slice_get_past numbers j le)
     ]
 
-    other_case : (q ≡ name → ⊥) → (o : Option ℕ) → index_of q names ≡ o → number_at (lowered numbers k number) o ≡ number_at numbers o
+    other_case : (q ≡ name → ⊥) → (o : Option ℕ) → index_of q names ≡ o → number_at (with_number numbers k number) o ≡ number_at numbers o
     other_case apart None at = refl
     other_case apart (Some j) at = other_at j (λ (e : j ≡ k). apart (one_index q name names k (at ∙ ap (λ (n : ℕ). Some n) e) found))
 
-    pub least_lowered : number_at (lowered numbers k number) (index_of q names) ≡ lesser (number_at numbers (index_of q names)) (number_if q name number)
+    pub least_lowered : number_at (with_number numbers k number) (index_of q names) ≡ lesser (number_at numbers (index_of q names)) (number_if q name number)
     least_lowered = elim (cases_Bool (same_name q name)) [
       | inl same ↦ same_case (same_name_equal q name same) ∙ ap (λ (b : Bool). lesser (number_at numbers (index_of q names)) (cond b (Some number) None)) (sym same)
       | inr differ ↦

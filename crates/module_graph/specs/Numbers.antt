@@ -31,5 +31,5 @@ abbrev pub number_if : List ℕ → List ℕ → ℕ → Option ℕ
 number_if wanted name number = if same_name wanted name then Some number else None
 
 -- numbers with one that is no greater at an index
-abbrev pub lowered : List ℕ → ℕ → ℕ → List ℕ
-lowered numbers index number = slice_set numbers index (lesser_number (slice_index numbers index) number)
+abbrev pub with_number : List ℕ → ℕ → ℕ → List ℕ
+with_number numbers index number = slice_set numbers index (lesser_number (slice_index numbers index) number)

@@ -1,6 +1,6 @@
 //! Numbers under names, found by hash: the least that was put under each.
 ghost use Rattle.std.specs.Prelude.{◌≡◌, ◌<◌, ℕ, List, None, length, OnOk};
-ghost use Rattle.module_graph.specs.Numbers.{IsWhole, least_under, lesser, lowered, number_if};
+ghost use Rattle.module_graph.specs.Numbers.{IsWhole, least_under, lesser, with_number, number_if};
 
 use name_table::NameTable;
 use sqlite_items::Items;
@@ -55,7 +55,7 @@ impl NumberTable {
 /// Puts a number at an index, where it is less than the one there.
 fn lower(numbers: &mut Items<usize>, index: usize, number: usize)
     requires { index < length numbers.old }
-    ensures { numbers.new ≡ lowered numbers.old index number }
+    ensures { numbers.new ≡ with_number numbers.old index number }
 {
     let old = numbers.as_slice()[index];
     numbers.set(index, if number < old { number } else { old });

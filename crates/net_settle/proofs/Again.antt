@@ -7,11 +7,11 @@ use Rattle.level_range.specs.Signal.{negative_level}
 use Rattle.level_range.proofs.Better.{lower, upper}
 use Rattle.net_settle.specs.declared.side.Side.{Side}
 use Rattle.net_settle.specs.declared.side.Side.TheVariants.{Lower, Upper}
-use Rattle.net_settle.specs.Bounds.{Switch, at, better, favoured, opposed}
+use Rattle.net_settle.specs.Bounds.{Switch, at, better, favoured_level, opposed_level}
 use Rattle.net_settle.specs.Settling.{IsWalk, IsSettled}
 use Rattle.net_settle.specs.Charges.{charge_bound}
 use Rattle.net_settle.specs.Progress.{rank}
-use Rattle.net_settle.proofs.Ranks.{Signed, signed, none, first, second, rank-none, rank-favoured, rank-opposed, better-from_rank}
+use Rattle.net_settle.proofs.Ranks.{Signed, signed, none, first, second, rank-none, rank-favoured_level, rank-opposed_level, better-from_rank}
 
 -- bounds stay finished for other own bounds that are no better, and that are the same where the bound is the own one
 module _ (side : Side) (switches : List Switch) (own next bounds : List ℤ)
@@ -65,26 +65,26 @@ abbrev pub IsSign : ℕ → ℤ → Type 0
 IsSign c v = (v ≡ negative_level c) ⊎ (v ≡ pos c)
 
 sign-rank : (side : Side) (c : ℕ) (k : ℤ) → 0 < c → IsSign c k → 2 * c ≤ rank side k + 1
-sign-rank Lower c k some (inl e) = let f = ap (rank Lower) e in let g = rank-favoured Lower c in omega arith
-sign-rank Lower c k some (inr e) = let f = ap (rank Lower) e in let g = rank-opposed Lower c some in omega arith
-sign-rank Upper c k some (inl e) = let f = ap (rank Upper) e in let g = rank-opposed Upper c some in omega arith
-sign-rank Upper c k some (inr e) = let f = ap (rank Upper) e in let g = rank-favoured Upper c in omega arith
+sign-rank Lower c k some (inl e) = let f = ap (rank Lower) e in let g = rank-favoured_level Lower c in omega arith
+sign-rank Lower c k some (inr e) = let f = ap (rank Lower) e in let g = rank-opposed_level Lower c some in omega arith
+sign-rank Upper c k some (inl e) = let f = ap (rank Upper) e in let g = rank-opposed_level Upper c some in omega arith
+sign-rank Upper c k some (inr e) = let f = ap (rank Upper) e in let g = rank-favoured_level Upper c in omega arith
 
-charge_bound-favoured : (side : Side) (c n : ℕ) → charge_bound c (favoured side (suc n)) ≡ favoured side c
-charge_bound-favoured Lower c n = refl
-charge_bound-favoured Upper c n = elim (cases_Bool (int_lt (pos (suc n)) (pos 0))) [
+charge_bound-favoured_level : (side : Side) (c n : ℕ) → charge_bound c (favoured_level side (suc n)) ≡ favoured_level side c
+charge_bound-favoured_level Lower c n = refl
+charge_bound-favoured_level Upper c n = elim (cases_Bool (int_lt (pos (suc n)) (pos 0))) [
   | inl e ↦ absurd (grind (arith, ints))
   | inr e ↦ rw e refl
 ]
 
-charge_bound-opposed : (side : Side) (c n : ℕ) → charge_bound c (opposed side (suc n)) ≡ opposed side c
-charge_bound-opposed Lower c n = charge_bound-favoured Upper c n
-charge_bound-opposed Upper c n = refl
+charge_bound-opposed_level : (side : Side) (c n : ℕ) → charge_bound c (opposed_level side (suc n)) ≡ opposed_level side c
+charge_bound-opposed_level Lower c n = charge_bound-favoured_level Upper c n
+charge_bound-opposed_level Upper c n = refl
 
 pub charge_bound-sign : (c : ℕ) (k : ℤ) → 0 < c → IsSign c k → charge_bound c k ≡ k
 charge_bound-sign zero k some is = absurd (omega arith)
-charge_bound-sign (suc c) k some (inl e) = rw e (charge_bound-favoured Lower (suc c) c)
-charge_bound-sign (suc c) k some (inr e) = rw e (charge_bound-favoured Upper (suc c) c)
+charge_bound-sign (suc c) k some (inl e) = rw e (charge_bound-favoured_level Lower (suc c) c)
+charge_bound-sign (suc c) k some (inr e) = rw e (charge_bound-favoured_level Upper (suc c) c)
 
 charge_bound-rank : (side : Side) (c : ℕ) (k b : ℤ) → 0 < c → IsSign c k → rank side k ≤ rank side b → rank side (charge_bound c b) ≤ rank side b
 charge_bound-rank side c k b some is le = by_sign side c k b (signed side b) some is le
@@ -94,14 +94,14 @@ charge_bound-rank side c k b some is le = by_sign side c k b (signed side b) som
         let s = sign-rank side c k some is in let z = rank-none side in absurd (omega arith)
     by_sign side c k _ (first n) some is le =
         let s = sign-rank side c k some is in
-        let a = rank-favoured side (suc n) in
-        let b = rank-favoured side c in
-        rw (charge_bound-favoured side c n) (omega arith)
+        let a = rank-favoured_level side (suc n) in
+        let b = rank-favoured_level side c in
+        rw (charge_bound-favoured_level side c n) (omega arith)
     by_sign side c k _ (second n) some is le =
         let s = sign-rank side c k some is in
-        let a = rank-opposed side (suc n) (omega arith) in
-        let b = rank-opposed side c some in
-        rw (charge_bound-opposed side c n) (omega arith)
+        let a = rank-opposed_level side (suc n) (omega arith) in
+        let b = rank-opposed_level side c some in
+        rw (charge_bound-opposed_level side c n) (omega arith)
 
 -- on a plain net: what is left of a charge is no better than the bound that its own bound and the charge settled to
 pub again_better : (side : Side) (c : ℕ) (o k b : ℤ) → 0 < c → IsSign c k → rank side (better side o k) ≤ rank side b →

@@ -14,8 +14,8 @@ use Rattle.level_range.proofs.Combination.{joined-signal}
 use Rattle.level_range.proofs.Reduction.{undriven-is}
 use Rattle.net_settle.specs.declared.side.Side.{Side}
 use Rattle.net_settle.specs.declared.side.Side.TheVariants.{Lower, Upper}
-use Rattle.net_settle.specs.Bounds.{better, bound_of, favoured, is_favoured}
-use Rattle.net_settle.specs.Charges.{level, excludes_zero, widened, contribution, charge_bound, charge_left, prefer_driven}
+use Rattle.net_settle.specs.Bounds.{better, bound_of, favoured_level, is_favoured}
+use Rattle.net_settle.specs.Charges.{level, excludes_zero, charge_with_signs, contribution, charge_bound, charge_left, prefer_driven}
 use Rattle.net_settle.specs.Conditions.{IsCharge, IsChargeLevel}
 use Rattle.net_settle.specs.Progress.{rank}
 use Rattle.net_settle.proofs.ChargeBounds.{charge_left-some}
@@ -86,7 +86,7 @@ contribution-none charge driven = refl
 contribution-excluded : (c : ℕ) (charge driven : Signal) → excludes_zero driven ≡ true → contribution c charge driven ≡ undriven
 contribution-excluded c charge driven e = by_test (nat_eq c 0) e
   where
-    by_test : (b : Bool) → excludes_zero driven ≡ true → cond b undriven (cond (excludes_zero driven) undriven (widened c charge driven)) ≡ undriven
+    by_test : (b : Bool) → excludes_zero driven ≡ true → cond b undriven (cond (excludes_zero driven) undriven (charge_with_signs c charge driven)) ≡ undriven
     by_test true e = refl
     by_test false e = rw e refl
 
@@ -95,12 +95,12 @@ contribution-some : (m : ℕ) (charge driven : Signal) → excludes_zero driven 
 unfolding wide
 contribution-some m charge driven e =
     let z : nat_eq (suc m) 0 ≡ false = grind arith in
-    ap (λ b. cond b undriven (cond (excludes_zero driven) undriven (widened (suc m) charge driven))) z
-    ∙ ap (λ b. cond b undriven (widened (suc m) charge driven)) e
+    ap (λ b. cond b undriven (cond (excludes_zero driven) undriven (charge_with_signs (suc m) charge driven))) z
+    ∙ ap (λ b. cond b undriven (charge_with_signs (suc m) charge driven)) e
 
 -- the bounds of what is contributed
 bound-contribution : (side : Side) (m : ℕ) (charge driven : Signal) → excludes_zero driven ≡ false → IsCharge (suc m) charge →
-    bound_of side (contribution (suc m) charge driven) ≡ cond (is_favoured side (bound_of side driven)) (favoured side (suc m)) (bound_of side charge)
+    bound_of side (contribution (suc m) charge driven) ≡ cond (is_favoured side (bound_of side driven)) (favoured_level side (suc m)) (bound_of side charge)
 bound-contribution Lower m charge driven e is =
     ap (λ s. s.lo) (contribution-some m charge driven e) ∙ wide-lower _ _ m charge (charge-sign Lower (suc m) charge is)
 bound-contribution Upper m charge driven e is =
@@ -130,7 +130,7 @@ combine-none Upper Plain y = upper.comm (pos 0) y ∙ upper.zero y
 combine-none Upper And y = lower.comm (pos 0) y ∙ lower.zero y
 combine-none Upper Or y = upper.comm (pos 0) y ∙ upper.zero y
 
--- a bound that isn't favoured, of a signal that doesn't exclude 0, is 0
+-- a bound that isn't the favoured one, of a signal that doesn't exclude 0, is 0
 bound_zero : (side : Side) (s : Signal) → excludes_zero s ≡ false → is_favoured side (bound_of side s) ≡ false → bound_of side s ≡ pos 0
 bound_zero Lower s e f = is_zero s.lo s.hi e f
   where
@@ -176,12 +176,12 @@ module _ (side : Side) (kind : Kind) (own charge driven second : Signal) where
       let some : suc m ≢ 0 = λ (z : suc m ≡ 0). absurd (omega arith) in
       let same : prefer_driven driven second ≡ second = ap (λ b. cond b driven second) within in
       let k : bound_of side (contribution (suc m) charge driven) ≡ bound_of side charge =
-      bound-contribution side m charge driven within is ∙ ap (λ b. cond b (favoured side (suc m)) (bound_of side charge)) sign in
+      bound-contribution side m charge driven within is ∙ ap (λ b. cond b (favoured_level side (suc m)) (bound_of side charge)) sign in
       let left = left-charge (suc m) charge second some order in
       let next_is : bound_of side (next_contribution (suc m) charge driven second) ≡ charge_bound (suc m) (bound_of side second) =
       ap (λ s. bound_of side (contribution (suc m) (charge_left (suc m) charge s) driven)) same
       ∙ bound-contribution side m (charge_left (suc m) charge second) driven within left
-      ∙ ap (λ b. cond b (favoured side (suc m)) (bound_of side (charge_left (suc m) charge second))) sign
+      ∙ ap (λ b. cond b (favoured_level side (suc m)) (bound_of side (charge_left (suc m) charge second))) sign
       ∙ left-bound side (suc m) charge second some in
       elim how [
         | inl plain ↦
@@ -223,9 +223,9 @@ module _ (side : Side) (kind : Kind) (own charge driven second : Signal) where
           let some : suc m ≢ 0 = λ (z : suc m ≡ 0). absurd (omega arith) in
           let same : prefer_driven driven second ≡ second = ap (λ b. cond b driven second) e in
           let left = subst (λ s. IsCharge (suc m) (charge_left (suc m) charge s)) (sym same) (left-charge (suc m) charge second some order) in
-          let k = bound-contribution side m charge driven e (is some) ∙ ap (λ b. cond b (favoured side (suc m)) (bound_of side charge)) f in
+          let k = bound-contribution side m charge driven e (is some) ∙ ap (λ b. cond b (favoured_level side (suc m)) (bound_of side charge)) f in
           let n = bound-contribution side m (charge_left (suc m) charge (prefer_driven driven second)) driven e left
-          ∙ ap (λ b. cond b (favoured side (suc m)) (bound_of side (charge_left (suc m) charge (prefer_driven driven second)))) f in
+          ∙ ap (λ b. cond b (favoured_level side (suc m)) (bound_of side (charge_left (suc m) charge (prefer_driven driven second)))) f in
           keeps-same (suc m) le
           (bound-joined side kind own _ ∙ ap (combine side kind (bound_of side own)) (k ∙ sym n) ∙ sym (bound-joined side kind own _))
       | inr f ↦ keeps-some m le e f (is (λ (z : suc m ≡ 0). absurd (omega arith))) order how

@@ -9,7 +9,7 @@ use Rattle.level_range.specs.Reduce.{reduced_level, reduced_strength}
 use Rattle.net_settle.specs.declared.shape.Link.{Link}
 use Rattle.net_settle.specs.declared.side.Side.{Side}
 use Rattle.net_settle.specs.declared.side.Side.TheVariants.{Lower, Upper}
-use Rattle.net_settle.specs.Bounds.{better, is_favoured, favoured, opposed, carried_bound}
+use Rattle.net_settle.specs.Bounds.{better, is_favoured, favoured_level, opposed_level, carried_bound}
 use Rattle.net_settle.specs.Progress.{rank}
 
 pub rank-injective : (side : Side) (x y : ℤ) → rank side x ≡ rank side y → x ≡ y
@@ -79,17 +79,17 @@ rank-from_better Upper (negsuc n) (pos (suc m)) h = grind (arith, ints)
 rank-from_better Upper (negsuc n) (negsuc m) h = grind (arith, ints)
 
 -- the rank of a level by its strength
-pub rank-favoured : (side : Side) (n : ℕ) → rank side (favoured side n) ≡ 2 * n
-rank-favoured Lower zero = refl
-rank-favoured Lower (suc n) = omega arith
-rank-favoured Upper zero = refl
-rank-favoured Upper (suc n) = omega arith
+pub rank-favoured_level : (side : Side) (n : ℕ) → rank side (favoured_level side n) ≡ 2 * n
+rank-favoured_level Lower zero = refl
+rank-favoured_level Lower (suc n) = omega arith
+rank-favoured_level Upper zero = refl
+rank-favoured_level Upper (suc n) = omega arith
 
-pub rank-opposed : (side : Side) (n : ℕ) → 0 < n → rank side (opposed side n) + 1 ≡ 2 * n
-rank-opposed Lower zero h = absurd (omega arith)
-rank-opposed Lower (suc n) h = omega arith
-rank-opposed Upper zero h = absurd (omega arith)
-rank-opposed Upper (suc n) h = omega arith
+pub rank-opposed_level : (side : Side) (n : ℕ) → 0 < n → rank side (opposed_level side n) + 1 ≡ 2 * n
+rank-opposed_level Lower zero h = absurd (omega arith)
+rank-opposed_level Lower (suc n) h = omega arith
+rank-opposed_level Upper zero h = absurd (omega arith)
+rank-opposed_level Upper (suc n) h = omega arith
 
 -- a switch weakens strengths and loses none
 weaker : (resistive : Bool) (n : ℕ) → reduced_strength resistive n ≤ n
@@ -103,8 +103,8 @@ positive false n h = grind arith
 -- a level of the one or of the other sign, or 0
 pub data Signed (side : Side) : ℤ → Type 0 where
   none : Signed side (pos 0)
-  first : (n : ℕ) → Signed side (favoured side (suc n))
-  second : (n : ℕ) → Signed side (opposed side (suc n))
+  first : (n : ℕ) → Signed side (favoured_level side (suc n))
+  second : (n : ℕ) → Signed side (opposed_level side (suc n))
 
 pub signed : (side : Side) (v : ℤ) → Signed side v
 signed Lower (pos zero) = none
@@ -119,17 +119,17 @@ unfolding reduced_level
 reduced-none true = refl
 reduced-none false = refl
 
-reduced-favoured : (side : Side) (resistive : Bool) (n : ℕ) →
-    reduced_level resistive (favoured side (suc n)) ≡ favoured side (reduced_strength resistive (suc n))
+reduced-favoured_level : (side : Side) (resistive : Bool) (n : ℕ) →
+    reduced_level resistive (favoured_level side (suc n)) ≡ favoured_level side (reduced_strength resistive (suc n))
 unfolding reduced_level
-reduced-favoured Lower resistive n = refl
-reduced-favoured Upper resistive n = refl
+reduced-favoured_level Lower resistive n = refl
+reduced-favoured_level Upper resistive n = refl
 
-reduced-opposed : (side : Side) (resistive : Bool) (n : ℕ) →
-    reduced_level resistive (opposed side (suc n)) ≡ opposed side (reduced_strength resistive (suc n))
+reduced-opposed_level : (side : Side) (resistive : Bool) (n : ℕ) →
+    reduced_level resistive (opposed_level side (suc n)) ≡ opposed_level side (reduced_strength resistive (suc n))
 unfolding reduced_level
-reduced-opposed Lower resistive n = refl
-reduced-opposed Upper resistive n = refl
+reduced-opposed_level Lower resistive n = refl
+reduced-opposed_level Upper resistive n = refl
 
 -- no bound is better behind a switch
 pub rank-reduced : (side : Side) (resistive : Bool) (v : ℤ) → rank side (reduced_level resistive v) ≤ rank side v
@@ -139,13 +139,13 @@ rank-reduced side resistive v = by_sign side resistive v (signed side v)
     by_sign side resistive _ none = rw (reduced-none resistive) (omega arith)
     by_sign side resistive _ (first n) =
         let w = weaker resistive (suc n) in
-        rw (reduced-favoured side resistive n, rank-favoured side (reduced_strength resistive (suc n)), rank-favoured side (suc n)) (omega arith)
+        rw (reduced-favoured_level side resistive n, rank-favoured_level side (reduced_strength resistive (suc n)), rank-favoured_level side (suc n)) (omega arith)
     by_sign side resistive _ (second n) =
         let w = weaker resistive (suc n) in
         let p = positive resistive (suc n) (omega arith) in
-        let a = rank-opposed side (reduced_strength resistive (suc n)) p in
-        let b = rank-opposed side (suc n) (omega arith) in
-        rw (reduced-opposed side resistive n) (omega arith)
+        let a = rank-opposed_level side (reduced_strength resistive (suc n)) p in
+        let b = rank-opposed_level side (suc n) (omega arith) in
+        rw (reduced-opposed_level side resistive n) (omega arith)
 
 pub rank-carried : (side : Side) (link : Link) (conduct : Conduct) (v : ℤ) → rank side (carried_bound side link conduct v) ≤ rank side v
 rank-carried side link On v = rank-reduced side link.resistive v

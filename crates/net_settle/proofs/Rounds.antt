@@ -9,11 +9,11 @@ use Rattle.std.proofs.lemmas.Bool.Decides.{Decides-int_eq, not_from_Decides}
 use Rattle.level_range.specs.declared.range.Conduct.{Conduct}
 use Rattle.net_settle.specs.declared.shape.Link.{Link}
 use Rattle.net_settle.specs.declared.side.Side.{Side}
-use Rattle.net_settle.specs.Bounds.{Switch, at, carried_bound, favoured, opposed}
+use Rattle.net_settle.specs.Bounds.{Switch, at, carried_bound, favoured_level, opposed_level}
 use Rattle.net_settle.specs.Settling.{Joins, IsSettled}
 use Rattle.net_settle.specs.ByLevels.{take_level, take_own, take_carried, rounds, spread, spread_from, settled_bounds}
 use Rattle.net_settle.specs.Progress.{rank, IsDone, without}
-use Rattle.net_settle.proofs.Ranks.{rank-none, rank-favoured, rank-opposed}
+use Rattle.net_settle.proofs.Ranks.{rank-none, rank-favoured_level, rank-opposed_level}
 use Rattle.net_settle.proofs.Walks.{IsIdle, Offered, takes, finishes, settles, starts}
 
 pub int_eq_cases : (x y : ℤ) → ((int_eq x y ≡ true) × (x ≡ y)) ⊎ ((int_eq x y ≡ false) × (x ≢ y))
@@ -255,11 +255,11 @@ module _ (side : Side) (switches : List Switch) (own : List ℤ) where
   spread_from-done zero bounds done = done
   spread_from-done (suc k) bounds done =
       let e : 2 * suc k ≡ suc (suc (2 * k)) = omega arith in
-      let f = rank-favoured side (suc k) in
-      let o = rank-opposed side (suc k) (omega arith) in
+      let f = rank-favoured_level side (suc k) in
+      let o = rank-opposed_level side (suc k) (omega arith) in
       let d = rw e at done in
-      let first = spread-done (suc (2 * k)) (favoured side (suc k)) bounds d (omega arith) in
-      spread_from-done k _ (spread-done (2 * k) (opposed side (suc k)) _ first (omega arith))
+      let first = spread-done (suc (2 * k)) (favoured_level side (suc k)) bounds d (omega arith) in
+      spread_from-done k _ (spread-done (2 * k) (opposed_level side (suc k)) _ first (omega arith))
 
   -- settling by levels gives finished bounds
   pub settled_bounds-settled : ((n : ℕ) → rank side (at own n) ≤ 14) → IsSettled side switches own (settled_bounds side switches own)

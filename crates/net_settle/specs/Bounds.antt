@@ -37,13 +37,13 @@ is_favoured Lower v = int_lt v (pos 0)
 is_favoured Upper v = int_lt (pos 0) v
 
 -- the bound of a strength that is better at equal levels, and the other one
-abbrev pub favoured : Side → ℕ → ℤ
-favoured Lower strength = negative_level strength
-favoured Upper strength = pos strength
+abbrev pub favoured_level : Side → ℕ → ℤ
+favoured_level Lower strength = negative_level strength
+favoured_level Upper strength = pos strength
 
-abbrev pub opposed : Side → ℕ → ℤ
-opposed Lower strength = pos strength
-opposed Upper strength = negative_level strength
+abbrev pub opposed_level : Side → ℕ → ℤ
+opposed_level Lower strength = pos strength
+opposed_level Upper strength = negative_level strength
 
 -- what a switch carries of the bound at one end: one that conducts the reduced bound, one that is off nothing, and
 -- an unknown one only a negative lower or a positive upper bound

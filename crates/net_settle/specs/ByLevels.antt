@@ -5,7 +5,7 @@ use Rattle.std.specs.Ordering.{int_eq}
 use Rattle.level_range.specs.Signal.{Signal}
 use Rattle.net_settle.specs.declared.side.Side.{Side}
 use Rattle.net_settle.specs.declared.side.Side.TheVariants.{Lower, Upper}
-use Rattle.net_settle.specs.Bounds.{Switch, at, bounds_of, carried_bound, favoured, opposed}
+use Rattle.net_settle.specs.Bounds.{Switch, at, bounds_of, carried_bound, favoured_level, opposed_level}
 
 -- a net that has no bound yet takes the level where it is what comes
 unfoldable pub take_level : ℤ → ℕ → ℤ → List ℤ → List ℤ
@@ -40,8 +40,8 @@ spread side level switches own bounds = rounds side level switches own (length o
 unfoldable pub spread_from : Side → List Switch → List ℤ → ℕ → List ℤ → List ℤ
 spread_from side switches own zero bounds = bounds
 spread_from side switches own (suc k) bounds =
-    let first = spread side (favoured side (suc k)) switches own bounds in
-    spread_from side switches own k (spread side (opposed side (suc k)) switches own first)
+    let first = spread side (favoured_level side (suc k)) switches own bounds in
+    spread_from side switches own k (spread side (opposed_level side (suc k)) switches own first)
 
 -- the finished bounds on a side
 unfoldable pub settled_bounds : Side → List Switch → List ℤ → List ℤ

@@ -24,21 +24,21 @@ abbrev pub level : ℤ → Signal
 level v = record { lo = v; hi = v }
 
 -- the charge with the level of strength c and value 0 where the driven signal has a level below 0
-abbrev pub widened_down : ℕ → Signal → Signal → Signal
-widened_down c charge driven = if int_lt driven.lo (pos 0) then hull_of charge (level (negative_level c)) else charge
+abbrev pub charge_with_zero : ℕ → Signal → Signal → Signal
+charge_with_zero c charge driven = if int_lt driven.lo (pos 0) then hull_of charge (level (negative_level c)) else charge
 
 -- and with that of value 1 where the driven signal has a level above 0
-abbrev pub widened : ℕ → Signal → Signal → Signal
-widened c charge driven =
-    if int_lt (pos 0) driven.hi then hull_of (widened_down c charge driven) (level (pos c))
-    else widened_down c charge driven
+abbrev pub charge_with_signs : ℕ → Signal → Signal → Signal
+charge_with_signs c charge driven =
+    if int_lt (pos 0) driven.hi then hull_of (charge_with_zero c charge driven) (level (pos c))
+    else charge_with_zero c charge driven
 
 -- what a net's charge of strength c contributes: nothing where there is none or where the driven signal excludes 0
 abbrev pub contribution : ℕ → Signal → Signal → Signal
 contribution c charge driven =
     if nat_eq c 0 then undriven
     else if excludes_zero driven then undriven
-    else widened c charge driven
+    else charge_with_signs c charge driven
 
 -- the side of a charge of strength c by the sign of a bound
 abbrev pub charge_bound : ℕ → ℤ → ℤ

@@ -1,6 +1,6 @@
 ghost use Rattle.std.specs.Prelude.{◌≡◌, ◌≢◌, ◌≤◌};
 ghost use Rattle.level_range.specs.Reduce.{hull_of};
-ghost use Rattle.net_settle.specs.Charges.{level as level_of, excludes_zero as excludes_zero_of, widened_down as widened_down_of, widened as widened_of, contribution as contribution_of, charge_bound as charge_bound_of, charge_left as charge_left_of};
+ghost use Rattle.net_settle.specs.Charges.{level as level_of, excludes_zero as excludes_zero_of, charge_with_zero as charge_with_zero_of, charge_with_signs as charge_with_signs_of, contribution as contribution_of, charge_bound as charge_bound_of, charge_left as charge_left_of};
 ghost use Rattle.net_settle.specs.Conditions.{IsCharge};
 
 use crate::level::{Level, signal};
@@ -29,9 +29,9 @@ pub fn excludes_zero(signal: Range) -> bool
 }
 
 /// The charge with the level of its strength and value 0 where the driven signal has a level below 0.
-fn widened_down(strength: u8, charge: Range, driven: Range) -> Range
+fn charge_with_zero(strength: u8, charge: Range, driven: Range) -> Range
     requires { strength ≤ 7 }
-    ensures { result ≡ widened_down_of strength charge driven }
+    ensures { result ≡ charge_with_zero_of strength charge driven }
 {
     if driven.lo < 0 {
         hull(charge, level(Level::zero(strength)))
@@ -41,11 +41,11 @@ fn widened_down(strength: u8, charge: Range, driven: Range) -> Range
 }
 
 /// The charge with a level of its strength for each sign that the driven signal has.
-fn widened(strength: u8, charge: Range, driven: Range) -> Range
+fn charge_with_signs(strength: u8, charge: Range, driven: Range) -> Range
     requires { strength ≤ 7 }
-    ensures { result ≡ widened_of strength charge driven }
+    ensures { result ≡ charge_with_signs_of strength charge driven }
 {
-    let down = widened_down(strength, charge, driven);
+    let down = charge_with_zero(strength, charge, driven);
     if driven.hi > 0 {
         hull(down, level(Level::one(strength)))
     } else {
@@ -62,7 +62,7 @@ pub fn contribution(strength: u8, charge: Range, driven: Range) -> Range
     if strength == 0 || excludes_zero(driven) {
         Range::new(0, 0)
     } else {
-        widened(strength, charge, driven)
+        charge_with_signs(strength, charge, driven)
     }
 }
 

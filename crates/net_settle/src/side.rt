@@ -1,7 +1,7 @@
 ghost use Rattle.std.specs.Prelude.{◌≡◌, ◌≤◌};
 ghost use Rattle.level_range.specs.Reduce.{reduced_level};
 ghost use Rattle.level_range.specs.Signal.{IsSignal};
-ghost use Rattle.net_settle.specs.Bounds.{bound_of, is_favoured as is_favoured_on, favoured as favoured_of, opposed as opposed_of, carried_bound as carried_of};
+ghost use Rattle.net_settle.specs.Bounds.{bound_of, is_favoured as is_favoured_on, favoured_level as favoured_level_of, opposed_level as opposed_level_of, carried_bound as carried_of};
 
 use crate::level::Level;
 use crate::shape::Link;
@@ -36,9 +36,9 @@ fn is_favoured(level: Level, side: Side) -> bool
 }
 
 /// The level of a strength, at most 7, that is the better bound.
-pub fn favoured(strength: u8, side: Side) -> Level
+pub fn favoured_level(strength: u8, side: Side) -> Level
     requires { strength ≤ 7 }
-    ensures { result ≡ favoured_of side strength }
+    ensures { result ≡ favoured_level_of side strength }
 {
     match side {
         Side::Lower => Level::zero(strength),
@@ -47,9 +47,9 @@ pub fn favoured(strength: u8, side: Side) -> Level
 }
 
 /// The other level of a strength, at most 7.
-pub fn opposed(strength: u8, side: Side) -> Level
+pub fn opposed_level(strength: u8, side: Side) -> Level
     requires { strength ≤ 7 }
-    ensures { result ≡ opposed_of side strength }
+    ensures { result ≡ opposed_level_of side strength }
 {
     match side {
         Side::Lower => Level::one(strength),

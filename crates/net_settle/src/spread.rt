@@ -8,7 +8,7 @@ ghost use Rattle.net_settle.specs.Progress.{rank, IsDone, OwnRests, LinkRests, L
 
 use crate::level::Level;
 use crate::shape::Link;
-use crate::side::{Side, bound, carried_bound, favoured, opposed};
+use crate::side::{Side, bound, carried_bound, favoured_level, opposed_level};
 use level_range::{Conduct, Range};
 
 /// Gives the level to a net that has no bound yet, where it is what comes to the net. Answers whether
@@ -157,7 +157,7 @@ pub fn settle_bounds(
     clear(bounds, own);
     for weaker in 0..7u8 {
         let strength = 7 - weaker;
-        spread(bounds, links, on, own, favoured(strength, side), side);
-        spread(bounds, links, on, own, opposed(strength, side), side);
+        spread(bounds, links, on, own, favoured_level(strength, side), side);
+        spread(bounds, links, on, own, opposed_level(strength, side), side);
     }
 }

@@ -31,7 +31,7 @@ fn delays_of(given: &[u16]) -> Delays {
     }
 }
 
-fn combining(kind: NetKind) -> Kind {
+fn combination_kind(kind: NetKind) -> Kind {
     match kind {
         NetKind::And => Kind::And,
         NetKind::Or => Kind::Or,
@@ -85,7 +85,7 @@ fn shape(alloc: Global, case: &IslandCase) -> Result<Shape, AllocError> {
     let mut kinds = Vec::new(alloc);
     let mut charge = Vec::new(alloc);
     for net in case.nets {
-        kinds.push(combining(net.kind))?;
+        kinds.push(combination_kind(net.kind))?;
         charge.push(net.charge)?;
     }
     let mut links = Vec::new(alloc);

@@ -128,7 +128,7 @@ fn are_as(rt: &impl Abort, state: &IslandState, pass: &IslandPass, n: usize) {
 }
 
 /// The island when what is due at this tick has taken effect.
-fn matured(rt: &impl Abort, state: IslandState, now: u64) -> IslandState
+fn mature_state(rt: &impl Abort, state: IslandState, now: u64) -> IslandState
     ensures { (parts : Parts) (i : ℕ) → FitsIsland parts i state → FitsIsland parts i result }
 {
     let mut cell = CellState::Island(state);
@@ -169,7 +169,7 @@ fn step<L: Ledger>(
         on: on.as_slice(),
         inputs: inputs.as_slice(),
     };
-    let mut state = matured(rt, state, pass.now);
+    let mut state = mature_state(rt, state, pass.now);
     island_step(
         flat, 0, case.patch, &mut state, &view, pass.now, bench, steps,
     );

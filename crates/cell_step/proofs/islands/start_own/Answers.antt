@@ -1,7 +1,7 @@
 use Rattle.std.proofs.Common.{ℕ, List, [], get_or, length, ap, sym, ◌∙◌, arith}
 use Rattle.level_range.specs.Signal.{undriven}
 use Rattle.level_range.specs.Combine.{join_of}
-use Rattle.flat_net.specs.Islands.{combining}
+use Rattle.flat_net.specs.Islands.{combination_kind}
 use Rattle.cell_step.specs.Readings.{net_at}
 use Rattle.cell_step.specs.Islands.{own_driver}
 use Rattle.cell_step.specs.Owns.{place_signal}
@@ -16,7 +16,7 @@ loop-place-preserved g c =
     filled-more (place_signal parts r c.args.island.now []) undriven c.args.own.now c.loop-place.own c.loop-place.place c.first_signal.result
     (let t = c.loop-place-test.true in let s = c.loop-place.invariant.size in omega arith)
     (c.first_signal.ensures
-    ∙ ap (λ (l : List ℕ). join_of (combining (net_at parts (get_or l c.loop-place.place 0)).kind)
+    ∙ ap (λ (l : List ℕ). join_of (combination_kind (net_at parts (get_or l c.loop-place.place 0)).kind)
     (own_driver (net_at parts (get_or l c.loop-place.place 0)).kind) (r.input (get_or l c.loop-place.place 0))) c.as_slice-nets.ensures
     ∙ first-is parts r c.args.island.now c.loop-place.place)
     c.loop-place.invariant
