@@ -38,11 +38,11 @@ stepped ends names name = cond ends (names ++ name ∷ []) names
 abbrev rest_of : Bool → List ℕ → List ℕ
 rest_of ends name = cond ends [] name
 
-taken : (ends : Bool) (byte : Option ℕ) (names : List (List ℕ)) (name : List ℕ) (others : List (List ℕ))
+name_step : (ends : Bool) (byte : Option ℕ) (names : List (List ℕ)) (name : List ℕ) (others : List (List ℕ))
     → names ++ front_onto name (ended_onto ends (byte_onto byte others)) ≡ stepped ends names name ++ front_onto (rest_of ends name ++ option_to_list byte) others
-taken false byte names name others =
+name_step false byte names name others =
     ap (λ (x : List (List ℕ)). names ++ x) (ap (front_onto name) (byte_onto-front byte others) ∙ sym (front_onto-append name (option_to_list byte) others))
-taken true byte names name others =
+name_step true byte names name others =
     ap (λ (x : List (List ℕ)). names ++ x) (front_onto-cons name [] (byte_onto byte others) ∙ ap (λ (n : List ℕ). n ∷ byte_onto byte others) (append-nil name))
     ∙ sym (append_assoc names (name ∷ []) (byte_onto byte others))
     ∙ ap (λ (x : List (List ℕ)). (names ++ name ∷ []) ++ x) (byte_onto-front byte others)
@@ -56,7 +56,7 @@ names_step step place i line name next names others total lt is e f so_far =
     let one : names_from place (get_or line i 0 ∷ drop (suc i) line) ≡ ended_onto step.ends (byte_onto step.byte rest) = rw is refl in
     let now : names ++ front_onto name (ended_onto step.ends (byte_onto step.byte rest)) ≡ total
     = ap (λ (x : List (List ℕ)). names ++ front_onto name x) (sym one) ∙ ap (λ (x : List ℕ). names_so_far names name place x) (sym here) ∙ so_far in
-    rw add-one (rw (e, f) (sym (taken step.ends step.byte names name rest) ∙ now))
+    rw add-one (rw (e, f) (sym (name_step step.ends step.byte names name rest) ∙ now))
 
 -- ---- between names there is none
 

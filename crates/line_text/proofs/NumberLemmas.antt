@@ -3,30 +3,30 @@ use Rattle.std.proofs.Common.{◌≡◌, ℕ, suc, ◌+◌, ◌*◌, ◌^◌, �
 use Rattle.std.specs.Prelude.{option_map, option_and_then}
 use Rattle.std.proofs.lemmas.Bool.{le-leb, lt-leb}
 use Rattle.std.proofs.lemmas.List.{drop_all}
-use Rattle.line_text.specs.Numbers.{digit_of, number_behind, decimal_of, number_of, capped, capped_decimal, capped_number}
+use Rattle.line_text.specs.Numbers.{digit_of, number_behind, decimal_of, number_of, cap, capped_decimal, capped_number}
 
--- a digit behind a capped number
-pub capped_digit : (n value : ℕ) → capped (capped n * 10 + value) ≡ capped (n * 10 + value)
+-- a digit behind a number that is capped
+pub capped_digit : (n value : ℕ) → cap (cap n * 10 + value) ≡ cap (n * 10 + value)
 capped_digit n value = omega arith
 
-behind_digit : (m n : ℕ) (ds : List ℕ) (digit : Option ℕ) → ((value : ℕ) → option_map capped (number_behind (m * 10 + value) ds) ≡ option_map capped (number_behind (n * 10 + value) ds))
-    → option_map capped (option_and_then (λ value. number_behind (m * 10 + value) ds) digit) ≡ option_map capped (option_and_then (λ value. number_behind (n * 10 + value) ds) digit)
+behind_digit : (m n : ℕ) (ds : List ℕ) (digit : Option ℕ) → ((value : ℕ) → option_map cap (number_behind (m * 10 + value) ds) ≡ option_map cap (number_behind (n * 10 + value) ds))
+    → option_map cap (option_and_then (λ value. number_behind (m * 10 + value) ds) digit) ≡ option_map cap (option_and_then (λ value. number_behind (n * 10 + value) ds) digit)
 behind_digit m n ds None same = refl
 behind_digit m n ds (Some value) same = same value
 
 -- what the digits behind a number make is above the cap with it
-capped_behind : (n : ℕ) (ds : List ℕ) → option_map capped (number_behind (capped n) ds) ≡ option_map capped (number_behind n ds)
+capped_behind : (n : ℕ) (ds : List ℕ) → option_map cap (number_behind (cap n) ds) ≡ option_map cap (number_behind n ds)
 capped_behind n [] = ap Some (omega arith)
-capped_behind n (d ∷ ds) = behind_digit (capped n) n ds (digit_of d) (λ value.
-    sym (capped_behind (capped n * 10 + value) ds)
-    ∙ ap (λ (m : ℕ). option_map capped (number_behind m ds)) (capped_digit n value)
+capped_behind n (d ∷ ds) = behind_digit (cap n) n ds (digit_of d) (λ value.
+    sym (capped_behind (cap n * 10 + value) ds)
+    ∙ ap (λ (m : ℕ). option_map cap (number_behind m ds)) (capped_digit n value)
     ∙ capped_behind (n * 10 + value) ds)
 
 -- ---- steps
 
 -- the number that is read so far, and the digits that are left
 abbrev pub number_from : ℕ → ℕ → List ℕ → Option ℕ
-number_from n i ds = option_map capped (number_behind n (drop i ds))
+number_from n i ds = option_map cap (number_behind n (drop i ds))
 
 pub number_start : (ds : List ℕ) → 0 < length ds → number_from 0 0 ds ≡ capped_decimal ds
 unfolding decimal_of
@@ -36,21 +36,21 @@ number_start (d ∷ ds) some = refl
 pub number_stop : (n i : ℕ) (ds : List ℕ) (total : Option ℕ) → i < length ds → digit_of (get_or ds i 0) ≡ None → number_from n i ds ≡ total → None ≡ total
 number_stop n i ds total lt bad so_far =
     let here : drop i ds ≡ get_or ds i 0 ∷ drop (suc i) ds = drop-cons ds i 0 lt in
-    let one : option_map capped (number_behind n (get_or ds i 0 ∷ drop (suc i) ds)) ≡ None = rw bad refl in
-    sym one ∙ ap (λ (x : List ℕ). option_map capped (number_behind n x)) (sym here) ∙ so_far
+    let one : option_map cap (number_behind n (get_or ds i 0 ∷ drop (suc i) ds)) ≡ None = rw bad refl in
+    sym one ∙ ap (λ (x : List ℕ). option_map cap (number_behind n x)) (sym here) ∙ so_far
 
-pub number_step : (n i value next : ℕ) (ds : List ℕ) (total : Option ℕ) → i < length ds → digit_of (get_or ds i 0) ≡ Some value → next ≡ capped (n * 10 + value) → number_from n i ds ≡ total → number_from next (i + 1) ds ≡ total
+pub number_step : (n i value next : ℕ) (ds : List ℕ) (total : Option ℕ) → i < length ds → digit_of (get_or ds i 0) ≡ Some value → next ≡ cap (n * 10 + value) → number_from n i ds ≡ total → number_from next (i + 1) ds ≡ total
 number_step n i value next ds total lt good is so_far =
     let here : drop i ds ≡ get_or ds i 0 ∷ drop (suc i) ds = drop-cons ds i 0 lt in
-    let one : option_map capped (number_behind n (get_or ds i 0 ∷ drop (suc i) ds)) ≡ option_map capped (number_behind (n * 10 + value) (drop (suc i) ds)) = rw good refl in
-    let same : number_from next (suc i) ds ≡ option_map capped (number_behind (n * 10 + value) (drop (suc i) ds))
-    = ap (λ (m : ℕ). option_map capped (number_behind m (drop (suc i) ds))) is ∙ capped_behind (n * 10 + value) (drop (suc i) ds) in
-    rw add-one (same ∙ sym one ∙ ap (λ (x : List ℕ). option_map capped (number_behind n x)) (sym here) ∙ so_far)
+    let one : option_map cap (number_behind n (get_or ds i 0 ∷ drop (suc i) ds)) ≡ option_map cap (number_behind (n * 10 + value) (drop (suc i) ds)) = rw good refl in
+    let same : number_from next (suc i) ds ≡ option_map cap (number_behind (n * 10 + value) (drop (suc i) ds))
+    = ap (λ (m : ℕ). option_map cap (number_behind m (drop (suc i) ds))) is ∙ capped_behind (n * 10 + value) (drop (suc i) ds) in
+    rw add-one (same ∙ sym one ∙ ap (λ (x : List ℕ). option_map cap (number_behind n x)) (sym here) ∙ so_far)
 
 pub number_end : (n i : ℕ) (ds : List ℕ) (total : Option ℕ) → length ds ≤ i → n < 2 ^ 64 → number_from n i ds ≡ total → Some n ≡ total
 number_end n i ds total le small so_far =
-    let same : n ≡ capped n = omega arith in
-    ap Some same ∙ ap (λ (x : List ℕ). option_map capped (number_behind n x)) (sym (drop_all i ds le)) ∙ so_far
+    let same : n ≡ cap n = omega arith in
+    ap Some same ∙ ap (λ (x : List ℕ). option_map cap (number_behind n x)) (sym (drop_all i ds le)) ∙ so_far
 
 pub number_none : (ds : List ℕ) → length ds ≡ 0 → None ≡ capped_decimal ds
 unfolding decimal_of

@@ -18,37 +18,37 @@ abbrev pub behind_first : ℕ → Place
 behind_first b = if b == 92 then Escaped else behind_plain b
 
 -- a blank that belongs to no name
-abbrev pub passed : Step
-passed = record { ends = false; byte = None; place = Between }
+abbrev pub outer_step : Step
+outer_step = record { ends = false; byte = None; place = Between }
 
 -- a blank behind a name, which ends it
-abbrev pub parting : Step
-parting = record { ends = true; byte = None; place = Between }
+abbrev pub end_step : Step
+end_step = record { ends = true; byte = None; place = Between }
 
 -- a byte of the name
-abbrev pub taken : ℕ → Place → Step
-taken b place = record { ends = false; byte = Some b; place = place }
+abbrev pub name_step : ℕ → Place → Step
+name_step b place = record { ends = false; byte = Some b; place = place }
 
 -- the first byte of a name, directly behind another one
-abbrev pub opening : ℕ → Step
-opening b = record { ends = true; byte = Some b; place = behind_first b }
+abbrev pub new_name_step : ℕ → Step
+new_name_step b = record { ends = true; byte = Some b; place = behind_first b }
 
 -- What a blank is to the names of its line, by its place. The blank that ends an escaped component is
 -- its space.
 abbrev pub blank_step : Place → Step
-blank_step Between = passed
-blank_step Begun = parting
-blank_step Inside = parting
-blank_step Escaped = taken 32 Closed
-blank_step Closed = parting
+blank_step Between = outer_step
+blank_step Begun = end_step
+blank_step Inside = end_step
+blank_step Escaped = name_step 32 Closed
+blank_step Closed = end_step
 
 -- what any other byte is
 abbrev pub byte_step : Place → ℕ → Step
-byte_step Between b = taken b (behind_first b)
-byte_step Begun b = taken b (behind_first b)
-byte_step Inside b = taken b (behind_plain b)
-byte_step Escaped b = taken b Escaped
-byte_step Closed b = if (b == 46) || (b == 91) then taken b (behind_plain b) else opening b
+byte_step Between b = name_step b (behind_first b)
+byte_step Begun b = name_step b (behind_first b)
+byte_step Inside b = name_step b (behind_plain b)
+byte_step Escaped b = name_step b Escaped
+byte_step Closed b = if (b == 46) || (b == 91) then name_step b (behind_plain b) else new_name_step b
 
 -- What a byte is to the names of its line, by its place: whether a name ends before it, what it adds
 -- to a name, and the place behind it.

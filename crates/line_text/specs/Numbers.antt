@@ -20,11 +20,11 @@ unfoldable pub number_of : List ℕ → Option ℕ
 number_of field = if nat_le (length field) 20 then decimal_of field else None
 
 -- a number of 2^64 or more counts as 2^64 - 1, which is above every limit of these texts
-abbrev pub capped : ℕ → ℕ
-capped n = min n (2 ^ 64 - 1)
+abbrev pub cap : ℕ → ℕ
+cap n = min n (2 ^ 64 - 1)
 
 abbrev pub capped_decimal : List ℕ → Option ℕ
-capped_decimal field = option_map capped (decimal_of field)
+capped_decimal field = option_map cap (decimal_of field)
 
 abbrev pub capped_number : List ℕ → Option ℕ
-capped_number field = option_map capped (number_of field)
+capped_number field = option_map cap (number_of field)

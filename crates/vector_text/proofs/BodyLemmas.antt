@@ -11,7 +11,7 @@ use Rattle.line_text.specs.Faults.{fault_if, first_there}
 use Rattle.vector_text.proofs.PairLaws.{each_append, each_front, each_map, All-from_each}
 use Rattle.vector_text.proofs.ScheduleLemmas.{turns_up_to}
 use Rattle.line_text.specs.Fields.{fields_of}
-use Rattle.line_text.specs.Numbers.{capped}
+use Rattle.line_text.specs.Numbers.{cap}
 use Rattle.vector_text.specs.declared.body.Block.{Block}
 use Rattle.vector_text.specs.declared.vectors.VectorLine.{VectorLine}
 use Rattle.vector_text.specs.declared.fault.VecFault.TheVariants.{BadLine, Limit, Order}
@@ -21,7 +21,7 @@ use Rattle.vector_text.specs.declared.said.Version.TheVariants.{First, Second}
 use Rattle.vector_text.specs.declared.said.Said.{Said}
 use Rattle.vector_text.specs.declared.said.Said.TheVariants.{Timed, Opens, Closes, Ends}
 use Rattle.vector_text.specs.Sayings.{said_of, is_second}
-use Rattle.vector_text.specs.Written.{Body, Block as WrittenBlock, last_time, greatest_count, greatest_size, timed_passes, written, with_timed, with_turns, with_block, turns_of, size_of, total_size, start_of, may_stand, passes_limit, breaks_order, delayed, said_fault, read_said, read_with}
+use Rattle.vector_text.specs.Written.{Body, Block as WrittenBlock, last_time, greatest_count, greatest_size, timed_passes, written_lines, with_timed, with_turns, with_block, turns_of, size_of, total_size, start_of, may_stand, passes_limit, breaks_order, later_line, said_fault, read_said, read_with}
 use Rattle.vector_text.specs.Lawful.{greatest_time}
 use Rattle.vector_text.specs.Inside.{HasTurns, IsTimeWithin, IsRepeatWithin, IsWithin, HasSmallTime}
 use Rattle.vector_text.specs.BodyInside.{outside_lines, block_view, IsOpen, AreParts}
@@ -31,9 +31,9 @@ use Rattle.vector_text.specs.BodyInside.{outside_lines, block_view, IsOpen, AreP
 abbrev pub view_of : List VectorLine → Option Block → Option ℕ → Body
 view_of lines block end = record { lines = outside_lines lines block; block = option_map (block_view lines) block; end = end }
 
-pub written-view : (lines : List VectorLine) (block : Option Block) (end : Option ℕ) → written (view_of lines block end) ≡ lines
-written-view lines None end = append-nil lines
-written-view lines (Some block) end = take-append-drop block.first lines
+pub written_lines-view : (lines : List VectorLine) (block : Option Block) (end : Option ℕ) → written_lines (view_of lines block end) ≡ lines
+written_lines-view lines None end = append-nil lines
+written_lines-view lines (Some block) end = take-append-drop block.first lines
 
 pub start-view : (lines : List VectorLine) (block : Block) → start_of (Some (block_view lines block)) ≡ block.repeat.start
 start-view lines block = refl
@@ -143,7 +143,7 @@ capped_sum t x =
     ]
 
 -- the size with all turns of a block, from the sizes before it and with its first turn
-pub turns_size : (front turn count before size : ℕ) → 0 < count → before ≡ capped front → size ≡ capped (front + turn)
+pub turns_size : (front turn count before size : ℕ) → 0 < count → before ≡ cap front → size ≡ cap (front + turn)
     → ltb greatest_size (min (before + min (count * (size - before)) (2 ^ 64 - 1)) (2 ^ 64 - 1)) ≡ ltb greatest_size (front + count * turn)
 turns_size front turn count before size some e f =
     elim (cases_lt (2 ^ 64 - 1) (front + turn)) [
@@ -180,7 +180,7 @@ parts-push lines block end line parts small last = record {
         count = here.count;
         start = here.start;
         period = here.period;
-        size = here.size ∙ ap (λ (ls : List VectorLine). capped (total_size ls)) (sym front);
+        size = here.size ∙ ap (λ (ls : List VectorLine). cap (total_size ls)) (sym front);
         last = rw back (All-push (λ (x : VectorLine). x.time + (b.repeat.count - 1) * b.repeat.period ≤ greatest_time) (drop b.first lines) line here.last (last b is));
       };
 }
@@ -196,7 +196,7 @@ within-parts lines (Some block) time h = (
 )
 
 -- a block begins behind all lines
-pub parts-open : (lines : List VectorLine) (block : Option Block) (end : Option ℕ) (opened : Block) → AreParts lines block end → is_some end ≡ false → IsRepeatWithin opened.repeat → opened.first ≡ length lines → opened.size ≡ capped (total_size lines)
+pub parts-open : (lines : List VectorLine) (block : Option Block) (end : Option ℕ) (opened : Block) → AreParts lines block end → is_some end ≡ false → IsRepeatWithin opened.repeat → opened.first ≡ length lines → opened.size ≡ cap (total_size lines)
     → AreParts lines (Some opened) end
 parts-open lines block end opened parts none within first size = record {
   ended = λ x is. absurd (both_ways (is_some end) none (ap is_some is));
@@ -209,7 +209,7 @@ parts-open lines block end opened parts none within first size = record {
         count = within.count;
         start = within.start;
         period = within.period;
-        size = size ∙ ap (λ (ls : List VectorLine). capped (total_size ls)) (sym (take_all opened.first lines (omega arith)));
+        size = size ∙ ap (λ (ls : List VectorLine). cap (total_size ls)) (sym (take_all opened.first lines (omega arith)));
         last = rw (drop_all opened.first lines (omega arith)) (λ k d lt. absurd (omega arith));
       });
 }
@@ -231,12 +231,12 @@ mul_le m n p le =
     rw e (omega arith)
 
 each_turn : (greatest period count : ℕ) (lines : List VectorLine) (a n : ℕ) → a + n ≤ count → AllByRecursion (λ (line : VectorLine). line.time + (count - 1) * period ≤ greatest) lines
-    → AllByRecursion (λ (line : VectorLine). line.time ≤ greatest) (flat_map (λ (turn : ℕ). map (delayed (turn * period)) lines) (range_with_len a n))
+    → AllByRecursion (λ (line : VectorLine). line.time ≤ greatest) (flat_map (λ (turn : ℕ). map (later_line (turn * period)) lines) (range_with_len a n))
 each_turn greatest period count lines a zero le h = tt
 each_turn greatest period count lines a (suc n) le h =
     let most = mul_le a (count - 1) period (omega arith) in
-    each_append (λ (line : VectorLine). line.time ≤ greatest) (map (delayed (a * period)) lines) (flat_map (λ (turn : ℕ). map (delayed (turn * period)) lines) (range_with_len (a + 1) n))
-    (each_map (λ (line : VectorLine). line.time + (count - 1) * period ≤ greatest) (λ (line : VectorLine). line.time ≤ greatest) (delayed (a * period)) lines (λ line t. omega arith) h)
+    each_append (λ (line : VectorLine). line.time ≤ greatest) (map (later_line (a * period)) lines) (flat_map (λ (turn : ℕ). map (later_line (turn * period)) lines) (range_with_len (a + 1) n))
+    (each_map (λ (line : VectorLine). line.time + (count - 1) * period ≤ greatest) (λ (line : VectorLine). line.time ≤ greatest) (later_line (a * period)) lines (λ line t. omega arith) h)
     (each_turn greatest period count lines (a + 1) n (omega arith) h)
 
 -- the lines with all turns of a block

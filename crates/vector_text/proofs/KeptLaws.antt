@@ -10,7 +10,7 @@ use Rattle.vector_text.specs.declared.vectors.VectorLine.{VectorLine}
 use Rattle.vector_text.specs.declared.said.Repeat.{Repeat}
 use Rattle.vector_text.specs.declared.said.Said.{Said}
 use Rattle.vector_text.specs.declared.said.Said.TheVariants.{Timed, Opens, Closes, Ends}
-use Rattle.vector_text.specs.Written.{Block, Body, written, delayed, turn_of, turns_of, line_at, with_timed, with_turns, with_said, may_follow, none_later, timed_breaks, may_stand, breaks_order}
+use Rattle.vector_text.specs.Written.{Block, Body, written_lines, later_line, turn_of, turns_of, line_at, with_timed, with_turns, with_said, may_follow, none_later, timed_breaks, may_stand, breaks_order}
 use Rattle.vector_text.proofs.PairLaws.{each_append, each_front, each_weaker, Pairs, pairs_append, pairs_front, pairs_back, pairs_push}
 use Rattle.vector_text.proofs.OrderLaws.{Follows, IsInside, each_follows, each_from, turns_from, all_later}
 
@@ -26,7 +26,7 @@ KeptOpen lines (Some block) = KeptBlock lines block
 
 -- an end stands behind all lines, and no block is open there
 pub record KeptAt (body : Body) (end : ℕ) : Type 0 where
-  pub within : AllByRecursion (λ (line : VectorLine). line.time ≤ end) (written body)
+  pub within : AllByRecursion (λ (line : VectorLine). line.time ≤ end) (written_lines body)
   pub closed : is_some body.block ≡ false
 
 abbrev pub KeptEnd : Body → Option ℕ → Type 0
@@ -34,20 +34,20 @@ KeptEnd body None = Unit {0}
 KeptEnd body (Some end) = KeptAt body end
 
 pub record Kept (body : Body) : Type 0 where
-  pub order : Pairs Follows (written body)
+  pub order : Pairs Follows (written_lines body)
   pub open_block : KeptOpen body.lines body.block
   pub at_end : KeptEnd body body.end
 
 -- ---- turns
 
-delayed-zero : (by : ℕ) (lines : List VectorLine) → by ≡ 0 → map (delayed by) lines ≡ lines
-delayed-zero by [] e = refl
-delayed-zero by (line ∷ lines) e =
+later_line-zero : (by : ℕ) (lines : List VectorLine) → by ≡ 0 → map (later_line by) lines ≡ lines
+later_line-zero by [] e = refl
+later_line-zero by (line ∷ lines) e =
     let same : line.time + by ≡ line.time = omega arith in
-    ap (λ (t : ℕ). record line { time = t } ∷ map (delayed by) lines) same ∙ ap (λ (ls : List VectorLine). line ∷ ls) (delayed-zero by lines e)
+    ap (λ (t : ℕ). record line { time = t } ∷ map (later_line by) lines) same ∙ ap (λ (ls : List VectorLine). line ∷ ls) (later_line-zero by lines e)
 
-delayed-none : (block : Block) → turn_of block 0 ≡ block.lines
-delayed-none block = delayed-zero (0 * block.repeat.period) block.lines (omega arith)
+later_line-none : (block : Block) → turn_of block 0 ≡ block.lines
+later_line-none block = later_line-zero (0 * block.repeat.period) block.lines (omega arith)
 
 -- all turns behind some lines are in order, where the first is
 turns_order : (lines : List VectorLine) (block : Block) (count : ℕ) → Pairs Follows (lines ++ block.lines) → KeptBlock lines block → Pairs Follows (lines ++ flat_map (turn_of block) (range_with_len 0 count))
@@ -64,7 +64,7 @@ turns_order lines block (suc n) order kept =
     (each_weaker (λ (line : VectorLine). line.time ≤ start) (λ (x : VectorLine). AllByRecursion (Follows x) others) lines (λ x le. all_later (start + 1 * period) x others (omega arith) rest.1) kept.after)
     (each_weaker (IsInside start period) (λ (x : VectorLine). AllByRecursion (Follows x) others) block.lines (λ x h. all_later (start + 1 * period) x others (omega (arith, h.below)) rest.1) kept.inside) in
     let all = pairs_append Follows (lines ++ block.lines) others order rest.0 cross in
-    subst (λ (ls : List VectorLine). Pairs Follows (lines ++ (ls ++ others))) (sym (delayed-none block)) (subst (Pairs Follows) (append_assoc lines block.lines others) all)
+    subst (λ (ls : List VectorLine). Pairs Follows (lines ++ (ls ++ others))) (sym (later_line-none block)) (subst (Pairs Follows) (append_assoc lines block.lines others) all)
 
 -- ---- one more line
 
@@ -118,7 +118,7 @@ timed_kept lines (Some block) end number line none breaks kept =
 
 -- a block begins
 opened : (lines : List VectorLine) (block : Option Block) (end : Option ℕ) (repeat : Repeat) → is_some end ≡ false → is_some block ≡ false → 0 < repeat.period
-    → (let body : Body = record { lines = lines; block = block; end = end } in not (none_later (written body) repeat.start) ≡ false → Kept body → Kept (record body { block = Some (record { repeat = repeat; lines = [] }) }))
+    → (let body : Body = record { lines = lines; block = block; end = end } in not (none_later (written_lines body) repeat.start) ≡ false → Kept body → Kept (record body { block = Some (record { repeat = repeat; lines = [] }) }))
 opened lines (Some block) end repeat none outside some later kept = absurd cc
 opened lines None end repeat none outside some later kept =
     let early : none_later (lines ++ []) repeat.start ≡ true = not-false (none_later (lines ++ []) repeat.start) later in
@@ -143,14 +143,14 @@ closed lines (Some block) end none inside kept =
     }
 
 -- the end
-ended : (body : Body) (time : ℕ) → is_some body.block ≡ false → not (none_later (written body) time) ≡ false → Kept body → Kept (record body { end = Some time })
+ended : (body : Body) (time : ℕ) → is_some body.block ≡ false → not (none_later (written_lines body) time) ≡ false → Kept body → Kept (record body { end = Some time })
 ended body time outside later kept =
-    let early : none_later (written body) time ≡ true = not-false (none_later (written body) time) later in
+    let early : none_later (written_lines body) time ≡ true = not-false (none_later (written_lines body) time) later in
     record {
       order = kept.order;
       open_block = kept.open_block;
       at_end = record {
-        within = each_from (λ (line : VectorLine). leb line.time time) (λ (line : VectorLine). line.time ≤ time) (written body) (λ line e. leb-true line.time time e) early;
+        within = each_from (λ (line : VectorLine). leb line.time time) (λ (line : VectorLine). line.time ≤ time) (written_lines body) (λ line e. leb-true line.time time e) early;
         closed = outside;
       };
     }

@@ -1,5 +1,7 @@
 pub mod BindingLemmas
 pub mod BodyLemmas
+pub mod FormLaws
+pub mod FormReading
 pub mod InputLemmas
 pub mod KeptLaws
 pub mod LawfulLemmas

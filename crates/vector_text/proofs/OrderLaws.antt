@@ -8,7 +8,7 @@ use Rattle.level_range.specs.declared.range.Logic.{Logic}
 use Rattle.vector_text.specs.declared.stimulus.StimulusWhat.{StimulusWhat}
 use Rattle.vector_text.specs.declared.stimulus.StimulusWhat.TheVariants.{Values, Strobe, Expect}
 use Rattle.vector_text.specs.declared.vectors.VectorLine.{VectorLine}
-use Rattle.vector_text.specs.Written.{Block, delayed, turn_of, may_follow, none_later, is_strobe}
+use Rattle.vector_text.specs.Written.{Block, later_line, turn_of, may_follow, none_later, is_strobe}
 use Rattle.vector_text.specs.Lawful.{MayFollow}
 use Rattle.vector_text.proofs.PairLaws.{each_append, each_weaker, each_map, Pairs, pairs_append, pairs_map}
 
@@ -27,14 +27,14 @@ later_follows (Values values) earlier (Expect wanted) later lt = omega arith
 later_follows Strobe earlier (Expect wanted) later lt = lt
 later_follows (Expect wanted) earlier (Expect wanted') later lt = lt
 
-pub delayed_follows : (by : ℕ) (before : StimulusWhat) (earlier : ℕ) (what : StimulusWhat) (later : ℕ) → MayFollow before earlier what later → MayFollow before (earlier + by) what (later + by)
-delayed_follows by before earlier (Values values) later h = omega arith
-delayed_follows by (Values values) earlier Strobe later h = omega arith
-delayed_follows by Strobe earlier Strobe later h = omega arith
-delayed_follows by (Expect wanted) earlier Strobe later h = omega arith
-delayed_follows by (Values values) earlier (Expect wanted) later h = omega arith
-delayed_follows by Strobe earlier (Expect wanted) later h = omega arith
-delayed_follows by (Expect wanted) earlier (Expect wanted') later h = omega arith
+pub later_line_follows : (by : ℕ) (before : StimulusWhat) (earlier : ℕ) (what : StimulusWhat) (later : ℕ) → MayFollow before earlier what later → MayFollow before (earlier + by) what (later + by)
+later_line_follows by before earlier (Values values) later h = omega arith
+later_line_follows by (Values values) earlier Strobe later h = omega arith
+later_line_follows by Strobe earlier Strobe later h = omega arith
+later_line_follows by (Expect wanted) earlier Strobe later h = omega arith
+later_line_follows by (Values values) earlier (Expect wanted) later h = omega arith
+later_line_follows by Strobe earlier (Expect wanted) later h = omega arith
+later_line_follows by (Expect wanted) earlier (Expect wanted') later h = omega arith
 
 -- ---- a line behind others
 
@@ -92,7 +92,7 @@ pub record IsInside (start period : ℕ) (line : VectorLine) : Type 0 where
 -- the lines of a turn begin a period behind those of the turn before
 turn_from : (block : Block) (start period turn : ℕ) → block.repeat.period ≡ period → AllByRecursion (IsInside start period) block.lines → AllByRecursion (λ (line : VectorLine). (start + turn * period ≤ line.time) × (line.time < start + (turn + 1) * period)) (turn_of block turn)
 turn_from block start period turn is inside =
-    rw is (each_map (IsInside start period) (λ (line : VectorLine). (start + turn * period ≤ line.time) × (line.time < start + (turn + 1) * period)) (delayed (turn * period)) block.lines
+    rw is (each_map (IsInside start period) (λ (line : VectorLine). (start + turn * period ≤ line.time) × (line.time < start + (turn + 1) * period)) (later_line (turn * period)) block.lines
     (λ line h. (omega (arith, h.from), omega (arith, h.below))) inside)
 
 pub all_later : (before : ℕ) (x : VectorLine) (lines : List VectorLine) → x.time < before → AllByRecursion (λ (line : VectorLine). before ≤ line.time) lines → AllByRecursion (Follows x) lines
@@ -106,7 +106,7 @@ turns_from block start period is inside order a (suc n) =
     let rest = turns_from block start period is inside order (a + 1) n in
     let here = turn_from block start period a is inside in
     let others = flat_map (turn_of block) (range_with_len (a + 1) n) in
-    let first : Pairs Follows (turn_of block a) = pairs_map Follows (delayed (a * block.repeat.period)) block.lines (λ x y h. delayed_follows (a * block.repeat.period) x.what x.time y.what y.time h) order in
+    let first : Pairs Follows (turn_of block a) = pairs_map Follows (later_line (a * block.repeat.period)) block.lines (λ x y h. later_line_follows (a * block.repeat.period) x.what x.time y.what y.time h) order in
     let cross : AllByRecursion (λ (x : VectorLine). AllByRecursion (Follows x) others) (turn_of block a)
     = each_weaker (λ (line : VectorLine). (start + a * period ≤ line.time) × (line.time < start + (a + 1) * period)) (λ (x : VectorLine). AllByRecursion (Follows x) others) (turn_of block a)
     (λ x h. all_later (start + (a + 1) * period) x others h.1 rest.1) here in (

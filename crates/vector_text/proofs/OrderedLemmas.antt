@@ -18,7 +18,7 @@ use Rattle.vector_text.specs.Answers.{Reads}
 use Rattle.vector_text.specs.Inside.{HasTurns}
 use Rattle.vector_text.specs.Sayings.{said_of, version_of, inputs_of}
 use Rattle.vector_text.specs.Written.{Block, Body, with_timed, with_turns, with_said, with_said_if, line_at, may_stand, passes_limit, breaks_order, last_time, said_fault, body_of, line_fault}
-use Rattle.vector_text.specs.Text.{given, Outputs, outputs_in, body_end, body_unless, body_in, vectors_with, behind_inputs, behind_version, vectors_in, vectors_of}
+use Rattle.vector_text.specs.Text.{or_fault, Outputs, outputs_in, body_end, body_unless, body_in, vectors_with, behind_inputs, behind_version, vectors_in, vectors_of}
 use Rattle.vector_text.specs.Lawful.{AreOrdered, AreInOrder, greatest_time}
 use Rattle.vector_text.proofs.PairLaws.{Pairs, each_front, All-from_each, AllPairs-from_pairs}
 use Rattle.vector_text.proofs.OrderLaws.{Follows}
@@ -44,7 +44,7 @@ period_of (Opens repeat) h = h.1
 period_of Closes h = tt
 period_of (Ends time) h = tt
 
-clean : (a b c : Bool) (x y z : VecFault) → first_there (fault_if (not a) x ∷ fault_if b y ∷ fault_if c z ∷ []) ≡ None → (a ≡ true) × (b ≡ false) × (c ≡ false)
+pub clean : (a b c : Bool) (x y z : VecFault) → first_there (fault_if (not a) x ∷ fault_if b y ∷ fault_if c z ∷ []) ≡ None → (a ≡ true) × (b ≡ false) × (c ≡ false)
 clean false b c x y z e = absurd cc
 clean true true c x y z e = absurd cc
 clean true false true x y z e = absurd cc
@@ -104,14 +104,14 @@ order_of lines None end h = record {
   small = h.small;
 }
 
-end_of : (lines : List VectorLine) (block : Option Block) (end : Option ℕ) (x : List VectorLine × ℕ) → given end NoEnd (λ at. Ok (lines, at)) ≡ Ok x
+end_of : (lines : List VectorLine) (block : Option Block) (end : Option ℕ) (x : List VectorLine × ℕ) → or_fault end NoEnd (λ at. Ok (lines, at)) ≡ Ok x
     → (let body : Body = record { lines = lines; block = block; end = end } in IsInOrder body → AreOrdered x.0 x.1)
 end_of lines block None x e h = absurd cc
 end_of lines block (Some end) x e h =
     let same : (lines, end) ≡ x = cc in
     subst (λ (y : List VectorLine × ℕ). AreOrdered y.0 y.1) same (order_of lines block end h)
 
-passed : (version : Version) (lines : List (ℕ × List ℕ)) (o : Option VecFault) (x : List VectorLine × ℕ) → body_unless version lines o ≡ Ok x → (o ≡ None) × (body_end (body_of version lines) ≡ Ok x)
+pub passed : (version : Version) (lines : List (ℕ × List ℕ)) (o : Option VecFault) (x : List VectorLine × ℕ) → body_unless version lines o ≡ Ok x → (o ≡ None) × (body_end (body_of version lines) ≡ Ok x)
 passed version lines None x e = (refl, e)
 passed version lines (Some fault) x e = absurd cc
 
@@ -124,9 +124,9 @@ body_ordered version lines x e =
 
 -- ---- the text
 
-given_ok : {A B : Type 0} (o : Option A) (fault : VecFault) (next : A → Result B VecFault) (y : B) → given o fault next ≡ Ok y → (x : A) × (next x ≡ Ok y)
+pub given_ok : {A B : Type 0} (o : Option A) (fault : VecFault) (next : A → Result B VecFault) (y : B) → or_fault o fault next ≡ Ok y → (x : A) × (next x ≡ Ok y) × (o ≡ Some x)
 given_ok None fault next y e = absurd cc
-given_ok (Some x) fault next y e = (x, e)
+given_ok (Some x) fault next y e = (x, e, refl)
 
 with_ordered : (inputs : List (List ℕ)) (number : ℕ) (outputs : Outputs) (body : Result (List VectorLine × ℕ) VecFault) (vectors : Vectors) → vectors_with inputs number outputs body ≡ Ok vectors
     → ((x : List VectorLine × ℕ) → body ≡ Ok x → AreOrdered x.0 x.1) → AreInOrder vectors

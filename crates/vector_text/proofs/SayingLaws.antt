@@ -9,18 +9,18 @@ use Rattle.vector_text.specs.declared.stimulus.StimulusWhat.{StimulusWhat}
 use Rattle.vector_text.specs.declared.stimulus.StimulusWhat.TheVariants.{Strobe}
 use Rattle.vector_text.specs.declared.said.Version.{Version}
 use Rattle.vector_text.specs.declared.said.Said.TheVariants.{Ends}
-use Rattle.vector_text.specs.Sayings.{said_of, strobe_said, end_said, expect_said, repeat_said, endrepeat_said, values_said, values_what, expect_what, timed, timed_if, repeat_if, is_second}
+use Rattle.vector_text.specs.Sayings.{said_of, strobe_said, end_said, expect_said, repeat_said, endrepeat_said, values_said, values_what, expect_what, timed_saying, timed_saying_if, repeat_if, is_second}
 use Rattle.vector_text.specs.Inside.{HasTurns}
 
-then_some : {A B : Type 0} (P : B → Type 0) (f : A → Option B) (o : Option A) → ((x : A) → IfSome (f x) P) → IfSome (option_and_then f o) P
+pub then_some : {A B : Type 0} (P : B → Type 0) (f : A → Option B) (o : Option A) → ((x : A) → IfSome (f x) P) → IfSome (option_and_then f o) P
 then_some P f None h = tt
 then_some P f (Some x) h = h x
 
-map_some : {A B : Type 0} (P : B → Type 0) (f : A → B) (o : Option A) → ((x : A) → P (f x)) → IfSome (option_map f o) P
+pub map_some : {A B : Type 0} (P : B → Type 0) (f : A → B) (o : Option A) → ((x : A) → P (f x)) → IfSome (option_map f o) P
 map_some P f None h = tt
 map_some P f (Some x) h = h x
 
-cond_some : {B : Type 0} (P : B → Type 0) (b : Bool) (x y : Option B) → IfSome x P → IfSome y P → IfSome (cond b x y) P
+pub cond_some : {B : Type 0} (P : B → Type 0) (b : Bool) (x y : Option B) → IfSome x P → IfSome y P → IfSome (cond b x y) P
 cond_some P true x y h k = h
 cond_some P false x y h k = k
 
@@ -28,8 +28,8 @@ or_parts : (x y : Bool) → (x || y) ≡ false → (x ≡ false) × (y ≡ false
 or_parts true y e = absurd cc
 or_parts false y e = (refl, e)
 
-timed_turns : (what : Option StimulusWhat) (time : ℕ) → IfSome (timed_if what time) HasTurns
-timed_turns what time = map_some HasTurns (λ (w : StimulusWhat). timed w time) what (λ w. tt)
+timed_turns : (what : Option StimulusWhat) (time : ℕ) → IfSome (timed_saying_if what time) HasTurns
+timed_turns what time = map_some HasTurns (λ (w : StimulusWhat). timed_saying w time) what (λ w. tt)
 
 repeat_turns : (count start period : ℕ) → IfSome (repeat_if count start period) HasTurns
 repeat_turns count start period =
@@ -51,12 +51,12 @@ pub said_turns : (version : Version) (fields : List (List ℕ)) → IfSome (said
 unfolding said_of strobe_said end_said expect_said repeat_said values_said
 said_turns version [] = tt
 said_turns version (word ∷ fields) =
-    cond_some HasTurns (bytes_eq word (codes "strobe")) _ _ (then_some HasTurns (λ (time : List ℕ). option_map (timed Strobe) (capped_number time)) (one_of fields) (λ time. map_some HasTurns (timed Strobe) (capped_number time) (λ t. tt)))
+    cond_some HasTurns (bytes_eq word (codes "strobe")) _ _ (then_some HasTurns (λ (time : List ℕ). option_map (timed_saying Strobe) (capped_number time)) (one_of fields) (λ time. map_some HasTurns (timed_saying Strobe) (capped_number time) (λ t. tt)))
     (cond_some HasTurns (bytes_eq word (codes "end")) _ _ (then_some HasTurns (λ (time : List ℕ). option_map Ends (capped_number time)) (one_of fields) (λ time. map_some HasTurns Ends (capped_number time) (λ t. tt)))
-    (cond_some HasTurns (is_second version && bytes_eq word (codes "expect")) _ _ (then_some HasTurns (λ (x : List ℕ × List ℕ). option_and_then (timed_if (expect_what x.1)) (capped_number x.0)) (two_of fields) (λ x. then_some HasTurns (timed_if (expect_what x.1)) (capped_number x.0) (λ t. timed_turns (expect_what x.1) t)))
+    (cond_some HasTurns (is_second version && bytes_eq word (codes "expect")) _ _ (then_some HasTurns (λ (x : List ℕ × List ℕ). option_and_then (timed_saying_if (expect_what x.1)) (capped_number x.0)) (two_of fields) (λ x. then_some HasTurns (timed_saying_if (expect_what x.1)) (capped_number x.0) (λ t. timed_turns (expect_what x.1) t)))
     (cond_some HasTurns (is_second version && bytes_eq word (codes "repeat")) _ _ (then_some HasTurns (λ (x : List ℕ × List ℕ × List ℕ). option_and_then (λ count. option_and_then (λ start. option_and_then (λ period. repeat_if count start period) (capped_number x.2)) (capped_number x.1)) (capped_number x.0)) (three_of fields)
     (λ x. then_some HasTurns (λ count. option_and_then (λ start. option_and_then (λ period. repeat_if count start period) (capped_number x.2)) (capped_number x.1)) (capped_number x.0)
     (λ count. then_some HasTurns (λ start. option_and_then (λ period. repeat_if count start period) (capped_number x.2)) (capped_number x.1)
     (λ start. then_some HasTurns (λ period. repeat_if count start period) (capped_number x.2) (λ period. repeat_turns count start period)))))
     (cond_some HasTurns (is_second version && bytes_eq word (codes "endrepeat")) _ _ (endrepeat_turns fields)
-    (then_some HasTurns (λ (at : ℕ). option_and_then (λ values. timed_if (values_what values) at) (one_of fields)) (capped_number word) (λ at. then_some HasTurns (λ values. timed_if (values_what values) at) (one_of fields) (λ values. timed_turns (values_what values) at)))))))
+    (then_some HasTurns (λ (at : ℕ). option_and_then (λ values. timed_saying_if (values_what values) at) (one_of fields)) (capped_number word) (λ at. then_some HasTurns (λ values. timed_saying_if (values_what values) at) (one_of fields) (λ values. timed_turns (values_what values) at)))))))

@@ -8,7 +8,7 @@ use Rattle.std.proofs.lemmas.List.FromFn.{map-range_with_len_more}
 use Rattle.std.proofs.lemmas.Grind.{flat_map-append}
 use Rattle.std.proofs.lemmas.List.Sums.{sum_by_push}
 use Rattle.vector_text.specs.declared.vectors.VectorLine.{VectorLine}
-use Rattle.vector_text.specs.Written.{delayed, size_of, total_size, is_strobe, none_later, may_strobe}
+use Rattle.vector_text.specs.Written.{later_line, size_of, total_size, is_strobe, none_later, may_strobe}
 use Rattle.vector_text.specs.Inside.{behind_all, behind_strobes, strobes_with, AreCounts}
 
 behind_all-push : (lines : List VectorLine) (line : VectorLine) → behind_all (lines ++ line ∷ []) ≡ max (behind_all lines) (line.time + 1)
@@ -112,23 +112,23 @@ range_small P old lines more first last k x le lt inside e is all =
     subst P (range_item old first last k x le lt ∙ sym here) (all (k - first) x (omega arith))
 
 -- a turn with one more line
-pub turn_more : (old self next lines : List VectorLine) (by first k : ℕ) (x line : VectorLine) → self ≡ old ++ map (delayed by) (slice_range old first k) → next ≡ self ++ line ∷ [] → line ≡ delayed by x → first ≤ k → k < length old → lines ≡ self → x ≡ get_or lines k x
-    → next ≡ old ++ map (delayed by) (slice_range old first (k + 1))
+pub turn_more : (old self next lines : List VectorLine) (by first k : ℕ) (x line : VectorLine) → self ≡ old ++ map (later_line by) (slice_range old first k) → next ≡ self ++ line ∷ [] → line ≡ later_line by x → first ≤ k → k < length old → lines ≡ self → x ≡ get_or lines k x
+    → next ≡ old ++ map (later_line by) (slice_range old first (k + 1))
 turn_more old self next lines by first k x line e f g le lt same is =
-    let here : x ≡ get_or old k x = item_before old lines (map (delayed by) (slice_range old first k)) k x (same ∙ e) lt is in
+    let here : x ≡ get_or old k x = item_before old lines (map (later_line by) (slice_range old first k)) k x (same ∙ e) lt is in
     let at : get_or (drop first old) (k - first) x ≡ x = get_or-drop first old (k - first) x ∙ ap (λ (j : ℕ). get_or old j x) (omega arith) ∙ sym here in
     let count : k + 1 - first ≡ (k - first) + 1 = omega arith in
     let more : take ((k - first) + 1) (drop first old) ≡ take (k - first) (drop first old) ++ get_or (drop first old) (k - first) x ∷ [] = take_more (drop first old) (k - first) x (omega (arith, length-drop first old)) in
     let range : slice_range old first (k + 1) ≡ slice_range old first k ++ x ∷ []
     = ap (λ (n : ℕ). take n (drop first old)) count ∙ more ∙ ap (λ (y : VectorLine). take (k - first) (drop first old) ++ y ∷ []) at in
-    f ∙ ap (λ (ls : List VectorLine). ls ++ line ∷ []) e ∙ append_assoc old (map (delayed by) (slice_range old first k)) (line ∷ [])
-    ∙ ap (λ (ls : List VectorLine). old ++ ls) (ap (λ (y : VectorLine). map (delayed by) (slice_range old first k) ++ y ∷ []) g ∙ sym (map-append (delayed by) (slice_range old first k) (x ∷ [])) ∙ ap (map (delayed by)) (sym range))
+    f ∙ ap (λ (ls : List VectorLine). ls ++ line ∷ []) e ∙ append_assoc old (map (later_line by) (slice_range old first k)) (line ∷ [])
+    ∙ ap (λ (ls : List VectorLine). old ++ ls) (ap (λ (y : VectorLine). map (later_line by) (slice_range old first k) ++ y ∷ []) g ∙ sym (map-append (later_line by) (slice_range old first k) (x ∷ [])) ∙ ap (map (later_line by)) (sym range))
 
 -- all turns up to one
 abbrev pub turns_up_to : ℕ → List VectorLine → ℕ → List VectorLine
-turns_up_to period lines n = flat_map (λ turn. map (delayed (turn * period)) lines) (range_with_len 0 n)
+turns_up_to period lines n = flat_map (λ turn. map (later_line (turn * period)) lines) (range_with_len 0 n)
 
-no_turns : (period : ℕ) (a n : ℕ) → flat_map (λ (turn : ℕ). map (delayed (turn * period)) []) (range_with_len a n) ≡ []
+no_turns : (period : ℕ) (a n : ℕ) → flat_map (λ (turn : ℕ). map (later_line (turn * period)) []) (range_with_len a n) ≡ []
 no_turns period a zero = refl
 no_turns period a (suc n) = no_turns period (a + 1) n
 
@@ -136,44 +136,44 @@ pub turns_none : (lines : List VectorLine) (first count period : ℕ) → length
 turns_none lines first count period le =
     sym (ap (λ (ls : List VectorLine). take first lines ++ turns_up_to period ls count) (drop_all first lines le) ∙ ap (λ (ls : List VectorLine). take first lines ++ ls) (no_turns period 0 count) ∙ append-nil (take first lines) ∙ take_all first lines le)
 
-delayed-zero : (by : ℕ) (lines : List VectorLine) → by ≡ 0 → map (delayed by) lines ≡ lines
-delayed-zero by [] e = refl
-delayed-zero by (line ∷ lines) e =
+later_line-zero : (by : ℕ) (lines : List VectorLine) → by ≡ 0 → map (later_line by) lines ≡ lines
+later_line-zero by [] e = refl
+later_line-zero by (line ∷ lines) e =
     let same : line.time + by ≡ line.time = omega arith in
-    ap (λ (t : ℕ). record line { time = t } ∷ map (delayed by) lines) same ∙ ap (λ (ls : List VectorLine). line ∷ ls) (delayed-zero by lines e)
+    ap (λ (t : ℕ). record line { time = t } ∷ map (later_line by) lines) same ∙ ap (λ (ls : List VectorLine). line ∷ ls) (later_line-zero by lines e)
 
 pub turns_first : (lines : List VectorLine) (first period : ℕ) → lines ≡ take first lines ++ turns_up_to period (drop first lines) 1
 turns_first lines first period =
-    sym (ap (λ (ls : List VectorLine). take first lines ++ ls) (append-nil (map (delayed (0 * period)) (drop first lines)) ∙ delayed-zero (0 * period) (drop first lines) (omega arith)) ∙ take-append-drop first lines)
+    sym (ap (λ (ls : List VectorLine). take first lines ++ ls) (append-nil (map (later_line (0 * period)) (drop first lines)) ∙ later_line-zero (0 * period) (drop first lines) (omega arith)) ∙ take-append-drop first lines)
 
 -- the first turn stands where it stood
 pub turns_range : (lines self : List VectorLine) (first last period n : ℕ) → last ≡ length lines → first ≤ last → 0 < n → self ≡ take first lines ++ turns_up_to period (drop first lines) n → slice_range self first last ≡ drop first lines
 turns_range lines self first last period zero e le some is = absurd (omega arith)
 turns_range lines self first last period (suc n) e le some is =
-    let rest = flat_map (λ (turn : ℕ). map (delayed (turn * period)) (drop first lines)) (range_with_len 1 n) in
+    let rest = flat_map (λ (turn : ℕ). map (later_line (turn * period)) (drop first lines)) (range_with_len 1 n) in
     let front : length (take first lines) ≡ first = length-take-le first lines (omega arith) in
-    let whole : self ≡ take first lines ++ (drop first lines ++ rest) = is ∙ ap (λ (ls : List VectorLine). take first lines ++ (ls ++ rest)) (delayed-zero (0 * period) (drop first lines) (omega arith)) in
+    let whole : self ≡ take first lines ++ (drop first lines ++ rest) = is ∙ ap (λ (ls : List VectorLine). take first lines ++ (ls ++ rest)) (later_line-zero (0 * period) (drop first lines) (omega arith)) in
     let back : drop first self ≡ drop first lines ++ rest = ap (drop first) whole ∙ drop_at (take first lines) (drop first lines ++ rest) first front in
     let long : length (drop first lines) ≡ last - first = length-drop first lines ∙ ap (λ (m : ℕ). m - first) (sym e) in
     ap (take (last - first)) back ∙ take_at (drop first lines) rest (last - first) long
 
 pub turns_more : (lines self next : List VectorLine) (first last period n : ℕ) → last ≡ length lines → first ≤ last → 0 < n → self ≡ take first lines ++ turns_up_to period (drop first lines) n
-    → next ≡ self ++ map (delayed (n * period)) (slice_range self first last) → next ≡ take first lines ++ turns_up_to period (drop first lines) (n + 1)
+    → next ≡ self ++ map (later_line (n * period)) (slice_range self first last) → next ≡ take first lines ++ turns_up_to period (drop first lines) (n + 1)
 turns_more lines self next first last period n e le some is f =
-    let turn = map (delayed (n * period)) (drop first lines) in
+    let turn = map (later_line (n * period)) (drop first lines) in
     let one : turns_up_to period (drop first lines) (n + 1) ≡ turns_up_to period (drop first lines) n ++ turn
-    = ap (flat_map (λ (t : ℕ). map (delayed (t * period)) (drop first lines))) (sym (map-id (range_with_len 0 (n + 1))) ∙ map-range_with_len_more (λ (t : ℕ). t) 0 n n (omega arith) ∙ ap (λ (ts : List ℕ). ts ++ n ∷ []) (map-id (range_with_len 0 n)))
-    ∙ flat_map-append (λ (t : ℕ). map (delayed (t * period)) (drop first lines)) (range_with_len 0 n) (n ∷ [])
+    = ap (flat_map (λ (t : ℕ). map (later_line (t * period)) (drop first lines))) (sym (map-id (range_with_len 0 (n + 1))) ∙ map-range_with_len_more (λ (t : ℕ). t) 0 n n (omega arith) ∙ ap (λ (ts : List ℕ). ts ++ n ∷ []) (map-id (range_with_len 0 n)))
+    ∙ flat_map-append (λ (t : ℕ). map (later_line (t * period)) (drop first lines)) (range_with_len 0 n) (n ∷ [])
     ∙ ap (λ (ls : List VectorLine). turns_up_to period (drop first lines) n ++ ls) (append-nil turn) in
-    f ∙ ap (λ (ls : List VectorLine). self ++ map (delayed (n * period)) ls) (turns_range lines self first last period n e le some is)
+    f ∙ ap (λ (ls : List VectorLine). self ++ map (later_line (n * period)) ls) (turns_range lines self first last period n e le some is)
     ∙ ap (λ (ls : List VectorLine). ls ++ turn) is ∙ append_assoc (take first lines) (turns_up_to period (drop first lines) n) turn ∙ ap (λ (ls : List VectorLine). take first lines ++ ls) (sym one)
 
 -- all lines stand among those with more turns
 pub turns_long : (lines self : List VectorLine) (first period n : ℕ) → 0 < n → self ≡ take first lines ++ turns_up_to period (drop first lines) n → length lines ≤ length self
 turns_long lines self first period zero some is = absurd (omega arith)
 turns_long lines self first period (suc n) some is =
-    let rest = flat_map (λ (turn : ℕ). map (delayed (turn * period)) (drop first lines)) (range_with_len 1 n) in
-    let whole : self ≡ take first lines ++ (drop first lines ++ rest) = is ∙ ap (λ (ls : List VectorLine). take first lines ++ (ls ++ rest)) (delayed-zero (0 * period) (drop first lines) (omega arith)) in
+    let rest = flat_map (λ (turn : ℕ). map (later_line (turn * period)) (drop first lines)) (range_with_len 1 n) in
+    let whole : self ≡ take first lines ++ (drop first lines ++ rest) = is ∙ ap (λ (ls : List VectorLine). take first lines ++ (ls ++ rest)) (later_line-zero (0 * period) (drop first lines) (omega arith)) in
     let split : lines ++ rest ≡ take first lines ++ (drop first lines ++ rest) = ap (λ (ls : List VectorLine). ls ++ rest) (sym (take-append-drop first lines)) ∙ append_assoc (take first lines) (drop first lines) rest in
     let e : length self ≡ length lines + length rest = ap length (whole ∙ sym split) ∙ length-append lines rest in
     omega arith

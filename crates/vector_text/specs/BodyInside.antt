@@ -1,7 +1,7 @@
 -- For the code alone: what the fields of a body stand for.
 use Rattle.std.specs.Prelude.{◌≡◌, ℕ, ◌+◌, ◌-◌, ◌*◌, ◌<◌, ◌≤◌, List, length, take, drop, All, Option, Some, None, option_map, is_some, false}
 use Rattle.std.specs.Option.{ForSome}
-use Rattle.line_text.specs.Numbers.{capped}
+use Rattle.line_text.specs.Numbers.{cap}
 use Rattle.vector_text.specs.declared.body.Block.{Block}
 use Rattle.vector_text.specs.declared.body.Body.TheInside.{Inside}
 use Rattle.vector_text.specs.declared.vectors.VectorLine.{VectorLine}
@@ -32,7 +32,7 @@ pub record IsOpen (lines : List VectorLine) (block : Block) : Type 0 where
   pub count : block.repeat.count ≤ greatest_count
   pub start : block.repeat.start ≤ greatest_time
   pub period : block.repeat.period ≤ greatest_time
-  pub size : block.size ≡ capped (total_size (take block.first lines))
+  pub size : block.size ≡ cap (total_size (take block.first lines))
   pub last : All (λ line. line.time + (block.repeat.count - 1) * block.repeat.period ≤ greatest_time) (drop block.first lines)
 
 -- the fields of a body: no block is open behind an end, and all times are within the greatest

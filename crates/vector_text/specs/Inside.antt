@@ -1,6 +1,6 @@
 -- For the code alone: what the counts of a schedule and the fields of a body stand for.
 use Rattle.std.specs.Prelude.{◌≡◌, ℕ, Bool, ◌+◌, ◌^◌, ◌<◌, ◌≤◌, max, List, [], ◌∷◌, filter, Option, Some, None, if◌then◌else◌}
-use Rattle.line_text.specs.Numbers.{capped}
+use Rattle.line_text.specs.Numbers.{cap}
 use Rattle.vector_text.specs.declared.vectors.VectorLine.{VectorLine}
 use Rattle.vector_text.specs.declared.said.Repeat.{Repeat}
 use Rattle.vector_text.specs.declared.said.Said.{Said}
@@ -25,7 +25,7 @@ strobes_with strobe behind time = if strobe then max behind (time + 1) else behi
 pub record AreCounts (lines : List VectorLine) (behind strobes size : ℕ) : Type 0 where
   pub behind_lines : behind ≡ behind_all lines
   pub behind_strobe : strobes ≡ behind_strobes lines
-  pub total : size ≡ capped (total_size lines)
+  pub total : size ≡ cap (total_size lines)
 
 -- a repetition has a turn and a period
 abbrev pub HasTurns : Said → Type 0

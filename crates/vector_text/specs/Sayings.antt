@@ -45,12 +45,12 @@ values_in said field =
 -- ---- the lines behind the head
 
 -- a line at a time
-abbrev pub timed : StimulusWhat → ℕ → Said
-timed what time = Timed (record { time = time; what = what })
+abbrev pub timed_saying : StimulusWhat → ℕ → Said
+timed_saying what time = Timed (record { time = time; what = what })
 
 -- a time and what is done then
-abbrev pub timed_if : Option StimulusWhat → ℕ → Option Said
-timed_if what time = option_map (λ w. timed w time) what
+abbrev pub timed_saying_if : Option StimulusWhat → ℕ → Option Said
+timed_saying_if what time = option_map (λ w. timed_saying w time) what
 
 -- the values of a value line, and of an `expect` line
 abbrev pub values_what : List ℕ → Option StimulusWhat
@@ -62,11 +62,11 @@ expect_what field = option_map Expect (values_in wanted_of field)
 -- TIME VALUES, of which the first field is already read
 unfoldable pub values_said : List ℕ → List (List ℕ) → Option Said
 values_said time fields =
-    option_and_then (λ at. option_and_then (λ values. timed_if (values_what values) at) (one_of fields)) (capped_number time)
+    option_and_then (λ at. option_and_then (λ values. timed_saying_if (values_what values) at) (one_of fields)) (capped_number time)
 
 -- strobe TIME
 unfoldable pub strobe_said : List (List ℕ) → Option Said
-strobe_said fields = option_and_then (λ time. option_map (timed Strobe) (capped_number time)) (one_of fields)
+strobe_said fields = option_and_then (λ time. option_map (timed_saying Strobe) (capped_number time)) (one_of fields)
 
 -- end TIME
 unfoldable pub end_said : List (List ℕ) → Option Said
@@ -75,7 +75,7 @@ end_said fields = option_and_then (λ time. option_map Ends (capped_number time)
 -- expect TIME VALUES
 unfoldable pub expect_said : List (List ℕ) → Option Said
 expect_said fields =
-    option_and_then (λ x. option_and_then (timed_if (expect_what x.1)) (capped_number x.0)) (two_of fields)
+    option_and_then (λ x. option_and_then (timed_saying_if (expect_what x.1)) (capped_number x.0)) (two_of fields)
 
 -- a repetition with COUNT and PERIOD above 0
 abbrev pub repeat_if : ℕ → ℕ → ℕ → Option Said

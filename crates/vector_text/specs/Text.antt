@@ -12,9 +12,9 @@ use Rattle.vector_text.specs.Sayings.{version_of, inputs_of, outputs_of}
 use Rattle.vector_text.specs.Written.{Body, body_of, line_fault}
 
 -- what is made of a value, or a fault where there is none
-abbrev pub given : {A B : Type 0} → Option A → VecFault → (A → Result B VecFault) → Result B VecFault
-given None fault next = Err fault
-given (Some x) fault next = next x
+abbrev pub or_fault : {A B : Type 0} → Option A → VecFault → (A → Result B VecFault) → Result B VecFault
+or_fault None fault next = Err fault
+or_fault (Some x) fault next = next x
 
 -- the outputs of a text, the number of their line, and the lines behind; number 0 without such a line
 pub record Outputs : Type 0 where
@@ -33,7 +33,7 @@ outputs_in (line ∷ rest) = outputs_if (outputs_of line.1) line rest
 
 -- the lines that are written out and the time of the end
 abbrev pub body_end : Body → Result (List VectorLine × ℕ) VecFault
-body_end body = given body.end NoEnd (λ end. Ok (body.lines, end))
+body_end body = or_fault body.end NoEnd (λ end. Ok (body.lines, end))
 
 abbrev pub body_unless : Version → List (ℕ × List ℕ) → Option VecFault → Result (List VectorLine × ℕ) VecFault
 body_unless version lines (Some fault) = Err fault
@@ -61,13 +61,13 @@ behind_inputs version inputs number outputs = vectors_with inputs number outputs
 abbrev pub behind_version : Version → List (ℕ × List ℕ) → Result Vectors VecFault
 behind_version version [] = Err NoEnd
 behind_version version (line ∷ rest) =
-    given (inputs_of line.1) (BadLine line.0) (λ inputs. behind_inputs version inputs line.0 (outputs_in rest))
+    or_fault (inputs_of line.1) (BadLine line.0) (λ inputs. behind_inputs version inputs line.0 (outputs_in rest))
 
 -- what lines mean, of which the first names the version
 abbrev pub vectors_in : List (ℕ × List ℕ) → Result Vectors VecFault
 vectors_in [] = Err NoEnd
 vectors_in (line ∷ rest) =
-    given (version_of (fields_of line.1)) (BadLine line.0) (λ version. behind_version version rest)
+    or_fault (version_of (fields_of line.1)) (BadLine line.0) (λ version. behind_version version rest)
 
 -- what a text means, or the fault of its first line that has one
 unfoldable pub vectors_of : List ℕ → Result Vectors VecFault

@@ -49,12 +49,12 @@ abbrev pub no_lines : Body
 no_lines = record { lines = []; block = None; end = None }
 
 -- the line, so much later
-abbrev pub delayed : ℕ → VectorLine → VectorLine
-delayed by line = record line { time = line.time + by }
+abbrev pub later_line : ℕ → VectorLine → VectorLine
+later_line by line = record line { time = line.time + by }
 
 -- one turn of a block, counted from 0
 abbrev pub turn_of : Block → ℕ → List VectorLine
-turn_of block turn = map (delayed (turn * block.repeat.period)) block.lines
+turn_of block turn = map (later_line (turn * block.repeat.period)) block.lines
 
 -- all turns of a block
 unfoldable pub turns_of : Block → List VectorLine
@@ -66,8 +66,8 @@ first_turn None = []
 first_turn (Some block) = block.lines
 
 -- all lines that are written out up to here
-abbrev pub written : Body → List VectorLine
-written body = body.lines ++ first_turn body.block
+abbrev pub written_lines : Body → List VectorLine
+written_lines body = body.lines ++ first_turn body.block
 
 -- ---- what a line writes out
 
@@ -183,15 +183,15 @@ is_behind_period (Some block) time = nat_le block.repeat.period time
 abbrev pub timed_breaks : Body → StimulusLine → Bool
 timed_breaks body line =
     is_behind_period body.block line.time
-    || not (may_follow (written body) (start_of body.block + line.time) line.what)
+    || not (may_follow (written_lines body) (start_of body.block + line.time) line.what)
 
 -- A line breaks the order. In a block this is judged by the first turn: the others repeat it, since
 -- all times of the block are below its period.
 unfoldable pub breaks_order : Body → Said → Bool
 breaks_order body (Timed line) = timed_breaks body line
-breaks_order body (Opens repeat) = not (none_later (written body) repeat.start)
+breaks_order body (Opens repeat) = not (none_later (written_lines body) repeat.start)
 breaks_order body Closes = false
-breaks_order body (Ends time) = not (none_later (written body) time)
+breaks_order body (Ends time) = not (none_later (written_lines body) time)
 
 -- what is wrong with a line of a number that says something: in one line a bad line, a limit, the order
 abbrev pub said_fault : Version → Body → ℕ → Option Said → Option VecFault

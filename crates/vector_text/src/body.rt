@@ -1,5 +1,5 @@
 ghost use Rattle.std.specs.Prelude.{◌≡◌, ◌+◌, ◌<◌, ◌^◌, true, false, is_some, Some, IfOk};
-ghost use Rattle.line_text.specs.Numbers.{capped};
+ghost use Rattle.line_text.specs.Numbers.{cap};
 ghost use Rattle.vector_text.specs.Written.{no_lines, last_time, last_turn_time, timed_passes, turns_pass, passes_limit, may_stand, breaks_order, timed_breaks, with_timed, line_at, with_turns, with_block, with_end, with_said, said_fault, read_said, read_with, start_of, is_behind_period};
 ghost use Rattle.vector_text.specs.Text.{body_end};
 ghost use Rattle.vector_text.specs.Answers.{Reads};
@@ -69,7 +69,7 @@ fn last_time(version: Version) -> u64
 /// The time that a time of a block has in the last turn.
 fn last_turn_time(repeat: Repeat, time: u64) -> u64
     requires { 0 < repeat.count }
-    ensures { result ≡ capped (last_turn_time repeat time) }
+    ensures { result ≡ cap (last_turn_time repeat time) }
 {
     (repeat.count - 1)
         .saturating_mul(repeat.period)

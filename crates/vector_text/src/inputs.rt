@@ -2,7 +2,7 @@ ghost use Rattle.std.specs.Prelude.{◌≡◌, ◌<◌, ◌≤◌, ◌^◌, ◌+
 ghost use Rattle.std.specs.List.{list_all};
 ghost use Rattle.flat_net.specs.Names.{nets_found};
 ghost use Rattle.flat_net.specs.Soundness.{IsSound};
-ghost use Rattle.vector_text.specs.Binding.{bits_of, is_net_among, are_new};
+ghost use Rattle.vector_text.specs.Binding.{bits_of, is_unknown, is_net_among, are_new};
 ghost use Rattle.vector_text.specs.Flags.{flags_of, inputs_bound};
 ghost use Rattle.vector_text.specs.Answers.{Binds};
 
@@ -23,6 +23,14 @@ pub fn bit_of(flat: &Flat, name: &[u8], at: u32) -> Option<u32>
         Ok(name) => flat.bit_of(name, at),
         Err(_) => None,
     }
+}
+
+/// Whether a name is that of no nets.
+pub fn is_unknown(flat: &Flat, name: &[u8]) -> bool
+    requires { IsSound flat.now.parts }
+    ensures { result ≡ is_unknown flat.now.parts name.now }
+{
+    bit_of(flat, name, 0).is_none()
 }
 
 /// So many flags, none set.
@@ -107,7 +115,7 @@ pub fn bound_inputs(
     let mut bits = Vec::new(alloc);
     for name in names {
         let name = name.as_slice();
-        if bit_of(flat, name, 0).is_none() {
+        if is_unknown(flat, name) {
             return Err(BindFault::UnknownNet(line));
         }
         if !are_inputs(flat, &inputs, name) {

@@ -6,7 +6,7 @@ ghost use Rattle.vector_text.specs.Lawful.{greatest_outputs};
 ghost use Rattle.vector_text.specs.Answers.{Binds};
 
 use crate::fault::BindFault;
-use crate::inputs::{GREATEST_PLACES, bit_of};
+use crate::inputs::{GREATEST_PLACES, bit_of, is_unknown};
 use byte_lists::{Bytes, NameList, NetList};
 use flat_net::Flat;
 use std::alloc::{AllocError, Global};
@@ -50,7 +50,7 @@ fn listed_outputs(
     let mut outputs = Vec::new(alloc);
     for name in names {
         let name = name.as_slice();
-        if bit_of(flat, name, 0).is_none() {
+        if is_unknown(flat, name) {
             return Err(BindFault::UnknownNet(line));
         }
         if !push_bits(flat, name, &mut outputs)? {

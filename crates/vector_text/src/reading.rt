@@ -1,6 +1,7 @@
 ghost use Rattle.std.specs.Prelude.{◌≡◌, ◌+◌, ◌≤◌, length, IfOk, Some, None, MatchOption};
 ghost use Rattle.line_text.specs.Lines.{lines_behind};
 ghost use Rattle.vector_text.specs.Text.{outputs_in, body_in, behind_inputs, behind_version, vectors_of};
+ghost use Rattle.vector_text.specs.Form.{IsVectors};
 ghost use Rattle.vector_text.specs.Lawful.{AreInOrder};
 ghost use Rattle.vector_text.specs.Answers.{Reads};
 
@@ -110,6 +111,8 @@ pub fn read_vectors(alloc: Global, text: &[u8]) -> Result<Vectors, VecFault>
     requires { length text.now ≤ 16777216 }
     // The result is what the text means, or its first fault.
     ensures exact { Reads (λ vectors. vectors) result (vectors_of text.now) }
+    // The text has the form of a vector text, and means what is read.
+    ensures form { IfOk result (λ vectors. IsVectors text.now vectors) }
     // The lines of what is read are in order.
     ensures ordered { IfOk result (λ vectors. AreInOrder vectors) }
 {

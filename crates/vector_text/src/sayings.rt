@@ -4,7 +4,8 @@ ghost use Rattle.vector_text.specs.Sayings.{said_of, values_said, strobe_said, e
 
 use crate::said::{Repeat, Said, Version};
 use crate::stimulus::{StimulusLine, StimulusWhat};
-use crate::values::{values_in, wanted_in};
+use crate::values::values_in;
+use level_range::Logic;
 use line_text::{next_field, number, one_field, three_fields, two_fields};
 use std::alloc::{AllocError, Global};
 
@@ -59,7 +60,7 @@ fn expect_said(alloc: Global, fields: &[u8]) -> Result<Option<Said>, AllocError>
 {
     if let Some((first, second)) = two_fields(fields)
         && let Some(time) = number(first)
-        && let Some(wanted) = wanted_in(alloc, second)?
+        && let Some(wanted) = values_in::<Option<Logic>>(alloc, second)?
     {
         let what = StimulusWhat::Expect(wanted);
         return Ok(Some(Said::Timed(StimulusLine { time, what })));
@@ -73,7 +74,7 @@ fn values_said(alloc: Global, first: &[u8], fields: &[u8]) -> Result<Option<Said
 {
     if let Some(time) = number(first)
         && let Some(second) = one_field(fields)
-        && let Some(values) = values_in(alloc, second)?
+        && let Some(values) = values_in::<Logic>(alloc, second)?
     {
         let what = StimulusWhat::Values(values);
         return Ok(Some(Said::Timed(StimulusLine { time, what })));

@@ -1,7 +1,7 @@
 ghost use Rattle.std.specs.Prelude.{◌≡◌, ◌+◌, ◌-◌, ◌*◌, ◌<◌, ◌≤◌, ◌^◌, [], ◌∷◌, ◌++◌, length, map, flat_map, take, drop, slice_range, OnOk, All};
 ghost use Rattle.std.specs.List.{range_with_len};
-ghost use Rattle.line_text.specs.Numbers.{capped};
-ghost use Rattle.vector_text.specs.Written.{size_of, is_strobe, total_size, none_later, may_strobe, may_follow, delayed};
+ghost use Rattle.line_text.specs.Numbers.{cap};
+ghost use Rattle.vector_text.specs.Written.{size_of, is_strobe, total_size, none_later, may_strobe, may_follow, later_line};
 ghost use Rattle.vector_text.specs.Inside.{strobes_with};
 
 use crate::stimulus::StimulusWhat;
@@ -84,7 +84,7 @@ impl Schedule {
 
     /// The size of the lines, at most 2^64 - 1.
     pub fn size(&self) -> u64
-        ensures { result ≡ capped (total_size self.now) }
+        ensures { result ≡ cap (total_size self.now) }
     {
         self.size
     }
@@ -141,10 +141,10 @@ impl Schedule {
         requires within { last ≤ length self.old }
         requires times { All (λ line. line.time + by + 1 < 2 ^ 64) (slice_range self.old first last) }
         ensures { OnOk result
-            (self.new ≡ self.old ++ map (delayed by) (slice_range self.old first last)) }
+            (self.new ≡ self.old ++ map (later_line by) (slice_range self.old first last)) }
     {
         for k in first..last {
-            let line = self.lines[k].delayed(alloc, by)?;
+            let line = self.lines[k].later_line(alloc, by)?;
             self.push(line)?;
         }
         Ok(())
@@ -165,7 +165,7 @@ impl Schedule {
             (drop first self.old) }
         ensures { OnOk result
             (self.new ≡ take first self.old
-            ++ flat_map (λ turn. map (delayed (turn * period)) (drop first self.old))
+            ++ flat_map (λ turn. map (later_line (turn * period)) (drop first self.old))
             (range_with_len 0 count)) }
     {
         let last = self.len();

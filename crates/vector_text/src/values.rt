@@ -1,10 +1,20 @@
 ghost use Rattle.std.specs.Prelude.{◌≡◌, IfOk, Some, None, MatchOption};
 ghost use Rattle.vector_text.specs.Sayings.{value_of, wanted_of, values_in};
 
-use crate::stimulus::{LogicList, WantedList};
 use level_range::Logic;
 use list_of::ListOf;
 use std::alloc::{AllocError, Global};
+
+/// What a byte of a field of values says.
+pub trait FieldValue: Drop + Sized {
+    ghost use Rattle.std.specs.Prelude.{ℕ, Option};
+
+    ghost said: { ℕ → Option Self };
+
+    /// What a byte says, where it is one of the field's.
+    fn of(byte: u8) -> Option<Self>
+        ensures { result ≡ Self.FieldValue.said byte };
+}
 
 /// The value of a byte: `0`, `1`, `x`, `X`, `z` or `Z`.
 fn value_of(byte: u8) -> Option<Logic>
@@ -30,16 +40,35 @@ fn wanted_of(byte: u8) -> Option<Option<Logic>>
     }
 }
 
+impl FieldValue for Logic {
+    ghost said = { value_of };
+
+    fn of(byte: u8) -> Option<Logic> {
+        value_of(byte)
+    }
+}
+
+impl FieldValue for Option<Logic> {
+    ghost said = { wanted_of };
+
+    fn of(byte: u8) -> Option<Option<Logic>> {
+        wanted_of(byte)
+    }
+}
+
 /// The values of a field, which has one or more; `_` is passed over.
-pub fn values_in(alloc: Global, field: &[u8]) -> Result<Option<LogicList>, AllocError>
-    ensures { IfOk result (λ values. values ≡ values_in value_of field.now) }
+pub fn values_in<V: FieldValue>(
+    alloc: Global,
+    field: &[u8],
+) -> Result<Option<ListOf<V>>, AllocError>
+    ensures { IfOk result (λ values. values ≡ values_in V.FieldValue.said field.now) }
 {
     let mut values = Vec::with_capacity(alloc, field.len())?;
     for byte in field {
         if *byte == b'_' {
             continue;
         }
-        match value_of(*byte) {
+        match V::of(*byte) {
             Some(value) => values.push(value)?,
             None => return Ok(None),
         }
@@ -48,24 +77,4 @@ pub fn values_in(alloc: Global, field: &[u8]) -> Result<Option<LogicList>, Alloc
         return Ok(None);
     }
     Ok(Some(ListOf::from_vec(values)))
-}
-
-/// The expected values of a field, which has one or more; `_` is passed over.
-pub fn wanted_in(alloc: Global, field: &[u8]) -> Result<Option<WantedList>, AllocError>
-    ensures { IfOk result (λ wanted. wanted ≡ values_in wanted_of field.now) }
-{
-    let mut wanted = Vec::with_capacity(alloc, field.len())?;
-    for byte in field {
-        if *byte == b'_' {
-            continue;
-        }
-        match wanted_of(*byte) {
-            Some(value) => wanted.push(value)?,
-            None => return Ok(None),
-        }
-    }
-    if wanted.is_empty() {
-        return Ok(None);
-    }
-    Ok(Some(ListOf::from_vec(wanted)))
 }

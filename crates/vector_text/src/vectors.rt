@@ -15,12 +15,12 @@ pub struct VectorLine {
 }
 
 impl VectorLine {
-    ghost use Rattle.vector_text.specs.Written.{delayed};
+    ghost use Rattle.vector_text.specs.Written.{later_line};
 
     /// The line once more, so many ticks later.
-    pub fn delayed(&self, alloc: Global, by: u64) -> Result<VectorLine, AllocError>
+    pub fn later_line(&self, alloc: Global, by: u64) -> Result<VectorLine, AllocError>
         requires { self.now.time + by < 2 ^ 64 }
-        ensures { IfOk result (λ line. line ≡ delayed by self.now) }
+        ensures { IfOk result (λ line. line ≡ later_line by self.now) }
     {
         Ok(VectorLine {
             line: self.line,

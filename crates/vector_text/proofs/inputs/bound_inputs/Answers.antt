@@ -2,21 +2,20 @@ use Rattle.std.proofs.Common.{◌≡◌, ◌∙◌, ◌++◌, ℕ, Bool, List, t
 use Rattle.std.specs.List.{list_all}
 use Rattle.std.proofs.lemmas.List.{append-nil, take_all, drop_all}
 use Rattle.std.proofs.lemmas.List.FromFn.{length-map-range_with_len}
-use Rattle.flat_net.specs.Names.{nets_found}
 use Rattle.vector_text.specs.declared.fault.BindFault.TheVariants.{UnknownNet, NotAnInput, NamedTwice}
 use Rattle.vector_text.specs.Binding.{bits_of, bits_of_all, is_unknown, is_net_among, are_new, input_fault}
 use Rattle.vector_text.specs.Flags.{bits_unless, flags_of}
-use Rattle.vector_text.proofs.NameLemmas.{listed_more, listed_stop, unknown_is, input_unknown, input_other, input_twice, input_good}
+use Rattle.vector_text.proofs.NameLemmas.{listed_more, listed_stop, input_unknown, input_other, input_twice, input_good}
 use Rattle.vector_text.proofs.inputs.bound_inputs.Goals as goal
 
-pub returns-then-is_none : goal.returns-then-is_none
-returns-then-is_none c =
+pub returns-then-is_unknown : goal.returns-then-is_unknown
+returns-then-is_unknown c =
     let parts = c.args.flat.now.parts in
     let names = c.args.names.now in
     let name = c.as_slice-name.result.now in
     let i = c.loop-name.name-index in
     let is : name ≡ get_or names i name = search rules in
-    let unknown : is_unknown parts name ≡ true = unknown_is 4294967296 (nets_found parts.finds name) c.bit_of.result c.is_none.result (omega arith) c.bit_of.ensures c.is_none.ensures ∙ c.if-is_none.true in
+    let unknown : is_unknown parts name ≡ true = sym c.is_unknown.ensures ∙ c.if-is_unknown.true in
     ap (bits_unless (bits_of_all parts names)) (listed_stop (input_fault parts c.args.line) parts i names c.loop-name.bits.items name (UnknownNet c.args.line) c.loop-name-test.true is
     (input_unknown parts c.args.line (take i names) name unknown) c.loop-name.invariant.names)
 
@@ -27,7 +26,7 @@ returns-then-not-are_inputs c =
     let name = c.as_slice-name.result.now in
     let i = c.loop-name.name-index in
     let is : name ≡ get_or names i name = search rules in
-    let known : is_unknown parts name ≡ false = unknown_is 4294967296 (nets_found parts.finds name) c.bit_of.result c.is_none.result (omega arith) c.bit_of.ensures c.is_none.ensures ∙ c.if-is_none.false in
+    let known : is_unknown parts name ≡ false = sym c.is_unknown.ensures ∙ c.if-is_unknown.false in
     let other : list_all (is_net_among parts.inputs) (bits_of parts name) ≡ false = sym c.are_inputs.ensures ∙ c.if-not-are_inputs.true in
     ap (bits_unless (bits_of_all parts names)) (listed_stop (input_fault parts c.args.line) parts i names c.loop-name.bits.items name (NotAnInput c.args.line) c.loop-name-test.true is
     (input_other parts c.args.line (take i names) name known other) c.loop-name.invariant.names)
@@ -39,7 +38,7 @@ returns-then-not-branch c =
     let name = c.as_slice-name.result.now in
     let i = c.loop-name.name-index in
     let is : name ≡ get_or names i name = search rules in
-    let known : is_unknown parts name ≡ false = unknown_is 4294967296 (nets_found parts.finds name) c.bit_of.result c.is_none.result (omega arith) c.bit_of.ensures c.is_none.ensures ∙ c.if-is_none.false in
+    let known : is_unknown parts name ≡ false = sym c.is_unknown.ensures ∙ c.if-is_unknown.false in
     let inputs : list_all (is_net_among parts.inputs) (bits_of parts name) ≡ true = sym c.are_inputs.ensures ∙ c.if-not-are_inputs.false in
     let twice : are_new (bits_of_all parts (take i names)) (bits_of parts name) ≡ false
     = ap (λ (bits : List ℕ). are_new bits (bits_of parts name)) (sym c.loop-name.invariant.names.bits_are) ∙ sym c.in_ok-list_bits.ensures.new ∙ c.if-not-branch.true in
@@ -53,7 +52,7 @@ loop-name-preserved c =
     let name = c.as_slice-name.result.now in
     let i = c.loop-name.name-index in
     let is : name ≡ get_or names i name = search rules in
-    let known : is_unknown parts name ≡ false = unknown_is 4294967296 (nets_found parts.finds name) c.bit_of.result c.is_none.result (omega arith) c.bit_of.ensures c.is_none.ensures ∙ c.if-is_none.false in
+    let known : is_unknown parts name ≡ false = sym c.is_unknown.ensures ∙ c.if-is_unknown.false in
     let inputs : list_all (is_net_among parts.inputs) (bits_of parts name) ≡ true = sym c.are_inputs.ensures ∙ c.if-not-are_inputs.false in
     let new : are_new (bits_of_all parts (take i names)) (bits_of parts name) ≡ true
     = ap (λ (bits : List ℕ). are_new bits (bits_of parts name)) (sym c.loop-name.invariant.names.bits_are) ∙ sym c.in_ok-list_bits.ensures.new ∙ c.if-not-branch.false in

@@ -1,7 +1,7 @@
 use Rattle.std.proofs.Common.{◌≡◌}
-use Rattle.vector_text.specs.Sayings.{value_of, all_said, value_bytes}
+use Rattle.vector_text.specs.Sayings.{all_said, value_bytes}
 use Rattle.vector_text.proofs.ValueLemmas.{read_from}
 use Rattle.vector_text.proofs.values.values_in.Given as goal
 
 abbrev pub invariant-loop-byte : goal.invariant-loop-byte
-invariant-loop-byte l = read_from value_of l.values.items l.field l.byte-index ≡ all_said value_of (value_bytes l.field)
+invariant-loop-byte g l = read_from g.V.FieldValue.said l.values.items l.field l.byte-index ≡ all_said g.V.FieldValue.said (value_bytes l.field)

@@ -1,20 +1,20 @@
 use Rattle.std.proofs.Common.{◌≡◌, ◌+◌, ◌<◌, ◌^◌, ◌++◌, [], ◌∷◌, map, arith, ◌∙◌}
 use Rattle.std.specs.Prelude.{slice_range}
 use Rattle.vector_text.specs.declared.vectors.VectorLine.{VectorLine}
-use Rattle.vector_text.specs.Written.{delayed}
+use Rattle.vector_text.specs.Written.{later_line}
 use Rattle.vector_text.proofs.ScheduleLemmas.{range_small, turn_more}
 use Rattle.vector_text.proofs.schedule.Schedule.push_turn.Goals as goal
 
-pub delayed-requires : goal.delayed-requires
-delayed-requires c =
-    let more = map (delayed c.args.by) (slice_range c.args.self.now c.args.first c.loop-k.k) in
+pub later_line-requires : goal.later_line-requires
+later_line-requires c =
+    let more = map (later_line c.args.by) (slice_range c.args.self.now c.args.first c.loop-k.k) in
     let small = range_small (λ (line : VectorLine). line.time + c.args.by + 1 < 2 ^ 64) c.args.self.now c.self.inside.lines.items more c.args.first c.args.last c.loop-k.k c.index.result.now
     c.loop-k.auto.k c.loop-k-test.true c.requires.within (c.self.view_is ∙ c.loop-k.invariant) c.index.ensures c.requires.times in
     omega arith
 
 pub push-requires : goal.push-requires
 push-requires c =
-    let more = map (delayed c.args.by) (slice_range c.args.self.now c.args.first c.loop-k.k) in
+    let more = map (later_line c.args.by) (slice_range c.args.self.now c.args.first c.loop-k.k) in
     let small = range_small (λ (line : VectorLine). line.time + c.args.by + 1 < 2 ^ 64) c.args.self.now c.self.inside.lines.items more c.args.first c.args.last c.loop-k.k c.index.result.now
     c.loop-k.auto.k c.loop-k-test.true c.requires.within (c.self.view_is ∙ c.loop-k.invariant) c.index.ensures c.requires.times in
     rw c.in_ok-line.ensures (omega arith)
