@@ -2,7 +2,6 @@
 use Rattle.std.specs.Prelude.{Bool, true, false, List, [], ◌∷◌}
 use Rattle.std.specs.List.{flat_map, list_any}
 use Rattle.std.specs.Option.{is_none}
-use Rattle.v_lexer.specs.declared.values.Literal.{Literal}
 use Rattle.v_tree.specs.declared.locations.Location.{Location}
 use Rattle.v_tree.specs.declared.expressions.Expr.{Expr, out-Expr}
 use Rattle.v_tree.specs.declared.expressions.Expr.TheOpen.{Expr-F}
