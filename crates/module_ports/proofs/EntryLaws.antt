@@ -1,5 +1,5 @@
 -- What entries stand for when one more is added.
-use Rattle.std.proofs.Common.{◌≡◌, ℕ, ◌+◌, ◌<◌, Bool, true, false, cond, List, [], ◌∷◌, ◌++◌, length, get_or, length-append, Option, Some, None, refl, sym, ap, ◌∙◌, arith, map}
+use Rattle.std.proofs.Common.{◌≡◌, ℕ, ◌+◌, ◌<◌, Bool, true, false, cond, List, [], ◌∷◌, ◌++◌, length, get_or, length-append, Option, Some, None, refl, sym, ap, subst, ◌∙◌, arith, map}
 use Rattle.std.specs.Option.{option_or}
 use Rattle.std.specs.List.{All}
 use Rattle.std.proofs.lemmas.List.{map-append, length-map, get_or_append_left}
@@ -10,10 +10,12 @@ use Rattle.name_table.specs.Names.{same_name, index_of}
 use Rattle.module_graph.specs.Numbers.{lesser, number_at}
 use Rattle.module_graph.proofs.NumberLaws.{index_of-push, least_new, same_name_equal}
 use Rattle.module_scope.specs.declared.nets.ScopeNet.{ScopeNet}
+use Rattle.module_scope.specs.declared.scopes.Scope.{Scope}
+use Rattle.module_scope.specs.Scopes.{scope_net}
 use Rattle.module_scope.proofs.Naming.{index_name, index_within}
 use Rattle.module_ports.specs.declared.entries.PortEntry.{PortEntry}
 use Rattle.module_ports.specs.declared.entries.PortEntries.{PortEntries}
-use Rattle.module_ports.specs.Ports.{Port, names_of}
+use Rattle.module_ports.specs.Ports.{Port, names_of, port_of}
 use Rattle.module_ports.specs.Entries.{AreEntries, port_at, ports_at, ports_in}
 
 or_none : (x : Option ℕ) → option_or x None ≡ x
@@ -55,7 +57,7 @@ module _ (q text : List ℕ) (before names : List (List ℕ)) (firsts : List ℕ
           let here : index_of q names ≡ None = ap (λ (n : List ℕ). index_of n names) (same_name_equal q text is) ∙ absent in
           rw here refl
 
-abbrev with_name : Option ScopeNet → List ℕ → Port
+abbrev pub with_name : Option ScopeNet → List ℕ → Port
 with_name net name = record { name = name; net = net }
 
 -- one more name changes no port of those before it
@@ -67,6 +69,10 @@ ports_at-more names last (e ∷ entries) within =
     let rest : ports_at (names ++ last ∷ []) entries ≡ ports_at names entries = ports_at-more names last entries (All-tail (λ (p : PortEntry). p.name < length names) e entries within) in
     ap (λ (name : List ℕ). with_name e.net name ∷ ports_at (names ++ last ∷ []) entries) same
     ∙ ap (λ (ps : List Port). port_at names e ∷ ps) rest
+
+-- the port of a name in a scope
+pub port_is : (scope : Scope) (text name : List ℕ) (net : Option ScopeNet) → net ≡ scope_net scope text → text ≡ name → with_name net text ≡ port_of scope name
+port_is scope text name net at is = ap (λ (n : Option ScopeNet). with_name n text) at ∙ ap (port_of scope) is
 
 names_of-push : (ports : List Port) (port : Port) → names_of (ports ++ port ∷ []) ≡ names_of ports ++ port.name ∷ []
 names_of-push ports port = map-append (λ (p : Port). p.name) ports (port ∷ [])
@@ -125,3 +131,19 @@ module _ (names : List (List ℕ)) (firsts : List ℕ) (entries : List PortEntry
               ∙ ap (index_of q) (names_of-push ports port)
               ∙ first_new q text (names_of ports) names firsts are.whole (are.firsts q) (length entries) count absent;
         }
+
+    module _ (names2 : List (List ℕ)) (entries2 : List PortEntry) (index : ℕ) (names_are : names2 ≡ names ++ text ∷ []) (entries_are : entries2 ≡ entries ++ entry index net ∷ []) (at : index ≡ length names) where
+      entries_at : entries2 ≡ entries ++ entry (length names) net ∷ []
+      entries_at = entries_are ∙ ap (λ (n : ℕ). entries ++ entry n net ∷ []) at
+
+      pub ports_in-after : ports_at names2 entries2 ≡ ports ++ port ∷ []
+      ports_in-after =
+          ap (λ (ns : List (List ℕ)). ports_at ns entries2) names_are
+          ∙ ap (ports_at (names ++ text ∷ [])) entries_at
+          ∙ ports_in-new
+
+      pub AreEntries-after : (firsts2 : List ℕ) (last : ℕ) → firsts2 ≡ firsts ++ last ∷ [] → last ≡ length entries → AreEntries (entries_with names2 firsts2 entries2)
+      AreEntries-after firsts2 last firsts_are is =
+          subst (λ (ns : List (List ℕ)). AreEntries (entries_with ns firsts2 entries2)) (sym names_are)
+          (subst (λ (fs : List ℕ). AreEntries (entries_with (names ++ text ∷ []) fs entries2)) (sym (firsts_are ∙ ap (λ (n : ℕ). firsts ++ n ∷ []) is))
+          (subst (λ (es : List PortEntry). AreEntries (entries_with (names ++ text ∷ []) (firsts ++ length entries ∷ []) es)) (sym entries_at) AreEntries-new))

@@ -44,7 +44,7 @@ fn push_entries(
     requires { AreEntries entries.old }
     ensures entries { OnOk result (AreEntries entries.new) }
     ensures ports { OnOk result (ports_in entries.new
-        ≡ ports_in entries.old ++ map (λ other. port_of scope.now (entry_name other).text) others.now) }
+        ≡ ports_in entries.old ++ map (λ name. port_of scope.now name.text) (map entry_name others.now)) }
 {
     for other in others {
         entries.push(scope, entry_name(other))?;
