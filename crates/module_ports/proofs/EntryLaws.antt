@@ -1,5 +1,5 @@
 -- What entries stand for when one more is added.
-use Rattle.std.proofs.Common.{◌≡◌, ℕ, ◌+◌, ◌<◌, Bool, true, false, cond, List, [], ◌∷◌, ◌++◌, length, get_or, length-append, Option, Some, None, refl, sym, ap, subst, ◌∙◌, arith, map}
+use Rattle.std.proofs.Common.{◌≡◌, ℕ, ◌+◌, ◌<◌, Bool, true, false, cond, List, [], ◌∷◌, ◌++◌, length, get_or, length-append, Option, Some, None, refl, sym, ap, subst, ◌∙◌, arith}
 use Rattle.std.specs.Option.{option_or}
 use Rattle.std.specs.List.{All}
 use Rattle.std.proofs.lemmas.List.{map-append, length-map, get_or_append_left}
@@ -16,7 +16,7 @@ use Rattle.module_scope.proofs.Naming.{index_name, index_within}
 use Rattle.module_ports.specs.declared.entries.PortEntry.{PortEntry}
 use Rattle.module_ports.specs.declared.entries.PortEntries.{PortEntries}
 use Rattle.module_ports.specs.Ports.{Port, names_of, port_of}
-use Rattle.module_ports.specs.Entries.{AreEntries, port_at, ports_at, ports_in}
+use Rattle.module_ports.specs.Entries.{AreEntries, port_at, ports_at}
 
 or_none : (x : Option ℕ) → option_or x None ≡ x
 or_none None = refl

@@ -9,11 +9,7 @@ use std::alloc::{AllocError, Global};
 use v_tree::{AnsiEntry, Module, Name, Ports};
 
 /// Adds entries that are names.
-fn push_names(
-    entries: &mut PortEntries,
-    scope: &Scope,
-    names: &[Name],
-) -> Result<(), AllocError>
+fn push_names(entries: &mut PortEntries, scope: &Scope, names: &[Name]) -> Result<(), AllocError>
     requires { AreEntries entries.old }
     ensures entries { OnOk result (AreEntries entries.new) }
     ensures ports { OnOk result (ports_in entries.new
@@ -53,11 +49,7 @@ fn push_entries(
 }
 
 /// Adds the entries of a header.
-fn push_header(
-    entries: &mut PortEntries,
-    scope: &Scope,
-    ports: &Ports,
-) -> Result<(), AllocError>
+fn push_header(entries: &mut PortEntries, scope: &Scope, ports: &Ports) -> Result<(), AllocError>
     requires { AreEntries entries.old }
     ensures entries { OnOk result (AreEntries entries.new) }
     ensures ports { OnOk result (ports_in entries.new
@@ -74,11 +66,7 @@ fn push_header(
 }
 
 /// The entries of a module's header.
-pub fn entries_of(
-    alloc: Global,
-    module: &Module,
-    scope: &Scope,
-) -> Result<PortEntries, AllocError>
+pub fn entries_of(alloc: Global, module: &Module, scope: &Scope) -> Result<PortEntries, AllocError>
     ensures entries { IfOk result (λ entries. AreEntries entries) }
     ensures ports { IfOk result (λ entries. ports_in entries ≡ ports_of scope.now «module».now) }
 {

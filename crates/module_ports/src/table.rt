@@ -31,11 +31,7 @@ impl Model for PortTable {
 impl PortTable {
     /// The ports of a module with their nets in its scope. A name that stands twice in the header gives
     /// two ports.
-    pub fn new(
-        alloc: Global,
-        module: &Module,
-        scope: &Scope,
-    ) -> Result<PortTable, AllocError>
+    pub fn new(alloc: Global, module: &Module, scope: &Scope) -> Result<PortTable, AllocError>
         ensures { IfOk result (λ table. table ≡ ports_of scope.now «module».now) }
     {
         let entries = entries_of(alloc, module, scope)?;

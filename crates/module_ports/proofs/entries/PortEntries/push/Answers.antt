@@ -1,11 +1,11 @@
-use Rattle.std.proofs.Common.{◌≡◌, ◌++◌, ◌∷◌, [], List, ℕ, Some, None, ap, sym, subst, ◌∙◌}
+use Rattle.std.proofs.Common.{◌≡◌, ◌++◌, ◌∷◌, [], List, Some, None, ap, sym, subst, ◌∙◌}
 use Rattle.name_table.specs.Names.{index_of}
 use Rattle.module_graph.proofs.NumberLaws.{added_name}
 use Rattle.module_scope.proofs.Naming.{on_ok}
 use Rattle.module_ports.specs.declared.entries.PortEntry.{PortEntry}
 use Rattle.module_ports.specs.Ports.{Port, port_of}
 use Rattle.module_ports.specs.Entries.{AreEntries, ports_at, ports_in}
-use Rattle.module_ports.proofs.EntryLaws.{AreEntries-again, AreEntries-after, entries_with, entry, port_is, ports_in-again, ports_in-after, with_name}
+use Rattle.module_ports.proofs.EntryLaws.{AreEntries-again, AreEntries-after, entries_with, entry, port_is, ports_in-again, ports_in-after}
 use Rattle.module_ports.proofs.entries.PortEntries.push.Goals as goal
 
 pub returns-in-Some-clause-entries : goal.returns-in-Some-clause-entries
