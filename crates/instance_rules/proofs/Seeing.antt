@@ -1,5 +1,5 @@
 -- Loops that keep the first place of each rule: what was seen, and what is left.
-use Rattle.std.proofs.Common.{◌≡◌, ℕ, ◌+◌, ◌<◌, ◌≤◌, List, [], ◌∷◌, ◌++◌, length, get_or, drop, Option, None, Some, refl, sym, ap, ◌∙◌}
+use Rattle.std.proofs.Common.{◌≡◌, ℕ, ◌+◌, ◌<◌, ◌≤◌, List, [], ◌∷◌, ◌++◌, length, get_or, drop, Option, None, refl, sym, ap, ◌∙◌}
 use Rattle.std.specs.List.{flat_map, enumerate_from}
 use Rattle.std.proofs.lemmas.Grind.{flat_map-append}
 use Rattle.v_tree.specs.declared.locations.Location.{Location}
@@ -38,6 +38,18 @@ IsSeen places_of xs whole i so_far = (rule : InstanceRule) → first_place (whol
 abbrev pub IsSeenFrom : {X : Type 0} → (InstanceRule → ℕ × X → List Location) → List X → (InstanceRule → List Location) → ℕ → InstancePlaces → Type 0
 IsSeenFrom places_of xs whole i so_far = (rule : InstanceRule) → first_place (whole rule) ≡ earliest (place_of rule so_far) (first_place (flat_map (places_of rule) (enumerate_from i (drop i xs))))
 
+-- nothing is seen yet
+from_none : (p : InstancePlaces) → p ≡ no_places → (rule : InstanceRule) (rest : Option Location) → rest ≡ earliest (place_of rule p) rest
+from_none p none rule rest = sym (ap (λ (first : Option Location). earliest first rest) (ap (place_of rule) none ∙ place_of-none rule))
+
+pub IsSeen-start : {X : Type 0} (places_of : InstanceRule → X → List Location) (xs : List X) (p : InstancePlaces) → p ≡ no_places → IsSeen places_of xs (λ rule. flat_map (places_of rule) xs) 0 p
+IsSeen-start places_of xs p none rule = from_none p none rule (first_place (flat_map (places_of rule) xs))
+
+pub IsSeenFrom-start : {X : Type 0} (places_of : InstanceRule → ℕ × X → List Location) (xs : List X) (whole : InstanceRule → List Location) (p : InstancePlaces) → p ≡ no_places →
+    ((rule : InstanceRule) → whole rule ≡ flat_map (places_of rule) (enumerate_from 0 xs)) → IsSeenFrom places_of xs whole 0 p
+IsSeenFrom-start places_of xs whole p none same rule =
+    ap first_place (same rule) ∙ from_none p none rule (first_place (flat_map (places_of rule) (enumerate_from 0 xs)))
+
 -- the places so far and those of one more
 more_places : (rule : InstanceRule) (so_far more : InstancePlaces) (places : List Location) (rest : Option Location) → first_place places ≡ place_of rule more →
     earliest (earliest (place_of rule so_far) (first_place places)) rest ≡ earliest (place_of rule (earliest_places so_far more)) rest
@@ -65,5 +77,5 @@ module _ {X : Type 0} (places_of : InstanceRule → ℕ × X → List Location) 
 
 -- the places of lists one in another
 pub flat_map-flat_map : {A B C : Type 0} (f : B → List C) (g : A → List B) (xs : List A) → flat_map f (flat_map g xs) ≡ flat_map (λ x. flat_map f (g x)) xs
-flat_map-flat_map f g [] = refl
-flat_map-flat_map f g (x ∷ xs) = flat_map-append f (g x) (flat_map g xs) ∙ ap (λ (rest : List C). flat_map f (g x) ++ rest) (flat_map-flat_map f g xs)
+flat_map-flat_map {C = C} f g [] = refl
+flat_map-flat_map {C = C} f g (x ∷ xs) = flat_map-append f (g x) (flat_map g xs) ∙ ap (λ (rest : List C). flat_map f (g x) ++ rest) (flat_map-flat_map f g xs)

@@ -1,5 +1,5 @@
 -- The connections of an instance, and the ports that they connect (IEEE 1364-2005, 12.3.5 and 12.3.6).
-use Rattle.std.specs.Prelude.{ℕ, Bool, true, false, List, [], ◌∷◌, length, option_and_then, slice_get, slice_index_or, nat_eq, Option, None, Some}
+use Rattle.std.specs.Prelude.{ℕ, Bool, true, false, List, [], ◌∷◌, option_and_then, slice_get, slice_index_or, nat_eq, Option, None, Some}
 use Rattle.std.specs.List.{enumerate_from, flat_map}
 use Rattle.std.specs.Option.{option_map}
 use Rattle.v_tree.specs.declared.locations.Location.{Location}

@@ -1,9 +1,10 @@
 //! The number of connections, and the names of those that are named.
-ghost use Rattle.std.specs.Prelude.{◌≡◌, ◌&&◌, not, ℕ, List, [], length, slice_index_or, IfOk};
+ghost use Rattle.std.specs.Prelude.{◌≡◌, ◌||◌, not, ℕ, List, [], length, slice_index_or, if◌then◌else◌, IfOk};
 ghost use Rattle.std.specs.List.{list_any};
 ghost use Rattle.std.specs.Option.{is_none};
-ghost use Rattle.module_ports.specs.Ports.{Port};
-ghost use Rattle.rule_places.specs.Places.{first_place};
+ghost use Rattle.name_table.specs.Names.{is_among};
+ghost use Rattle.module_ports.specs.Ports.{Port, names_of};
+ghost use Rattle.rule_places.specs.Places.{earliest, first_place};
 ghost use Rattle.instance_rules.specs.Links.{connections_by_place, ports_of};
 ghost use Rattle.instance_rules.specs.Rules.{connects_all, inst_connections, inst_counts, inst_place, module_connections, named_places};
 
@@ -26,6 +27,13 @@ fn connections_by_place(values: &[Option<Expr>]) -> &[Option<Expr>]
     }
 }
 
+/// Whether some of these connections by place is empty.
+fn has_empty(values: &[Option<Expr>]) -> bool
+    ensures { result ≡ list_any is_none values.now }
+{
+    values.iter().any(|value| value.is_none())
+}
+
 /// Whether there are so many connections by place, and none of them is empty.
 fn connects_all(count: usize, connections: &Connections) -> bool
     ensures { result ≡ connects_all count connections.now }
@@ -33,7 +41,7 @@ fn connects_all(count: usize, connections: &Connections) -> bool
     match connections {
         Connections::ByOrder(values) => {
             let values = connections_by_place(values.as_slice());
-            values.len() == count && !values.iter().any(|value| value.is_none())
+            values.len() == count && !has_empty(values)
         }
         Connections::ByName(_) => false,
     }
@@ -67,11 +75,34 @@ pub fn count_place(counts: &[usize], master: Master, inst: &Inst) -> Option<Loca
     match master {
         Master::Module(_) if inst.name.is_none() => Some(inst.paren),
         Master::Udp(primitive)
-            if !connects_all(primitive_count(counts, primitive), &inst.connections) =>
-        {
+            if !connects_all(primitive_count(counts, primitive), &inst.connections) => {
             Some(inst_place(inst))
         }
         _ => None,
+    }
+}
+
+/// Whether the module of an index has a port of a name.
+fn has_port(tables: &[PortTable], module: usize, name: &[u8]) -> bool
+    ensures { result ≡ is_among name.now (names_of (slice_index_or tables.now «module» [])) }
+{
+    port_index(tables, module, name).is_some()
+}
+
+/// The first place so far, and that of one more connection, where that is of no port or not of a new
+/// one.
+fn place_more(
+    first: Option<Location>,
+    has_port: bool,
+    is_new: bool,
+    place: Location,
+) -> Option<Location>
+    ensures { result ≡ (if not has_port || not is_new then earliest first (Some place) else first) }
+{
+    if has_port && is_new {
+        first
+    } else {
+        earliest(first, Some(place))
     }
 }
 
@@ -91,9 +122,8 @@ fn named_place(
     for connection in connections {
         let name = connection.port.text.as_slice();
         let is_new = names.add(name)?;
-        if !is_new || port_index(tables, module, name).is_none() {
-            place = earliest(place, Some(connection.location));
-        }
+        let has_port = has_port(tables, module, name);
+        place = place_more(place, has_port, is_new, connection.location);
     }
     Ok(place)
 }
@@ -136,7 +166,13 @@ pub fn connection_place(
         place ≡ first_place (inst_connections (ports_of tables.now counts master) inst.now)) }
 {
     match master {
-        Master::Module(module) => module_place(alloc, tables, module, inst.paren, &inst.connections),
+        Master::Module(module) => module_place(
+            alloc,
+            tables,
+            module,
+            inst.paren,
+            &inst.connections,
+        ),
         Master::Udp(_) | Master::Unknown => Ok(None),
     }
 }

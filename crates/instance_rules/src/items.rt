@@ -50,7 +50,7 @@ fn insts_places(
 ) -> Result<InstancePlaces, AllocError>
     ensures { IfOk result (λ places. AreFirst
         (λ rule. flat_map (inst_places rule scope.now (ports_of tables.now counts.now master))
-            instances.now)
+        instances.now)
         places) }
 {
     let mut places = no_places();

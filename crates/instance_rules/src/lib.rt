@@ -11,6 +11,3 @@ mod ports;
 
 pub use modules::instance_places;
 pub use places::InstancePlaces;
-
-#[cfg(test)]
-mod tests;

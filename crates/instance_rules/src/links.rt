@@ -37,7 +37,7 @@ fn link_places(
 ) -> InstancePlaces
     ensures { (counts : List ℕ) → AreFirst
         (λ rule. link_places rule scope.now (ports_of tables.now counts master)
-            (record { port = port; place = place; value = expr.now }))
+        (record { port = port; place = place; value = expr.now }))
         result }
 {
     let width = width_at(tables, master, port);
@@ -59,7 +59,7 @@ fn value_places(
 ) -> InstancePlaces
     ensures { (counts : List ℕ) → AreFirst
         (λ rule. links_places rule scope.now (ports_of tables.now counts master)
-            (ordered_link (index, value.now)))
+        (ordered_link (index, value.now)))
         result }
 {
     match value {
@@ -78,7 +78,7 @@ fn connection_places(
 ) -> InstancePlaces
     ensures { (counts : List ℕ) → AreFirst
         (λ rule. links_places rule scope.now (ports_of tables.now counts master)
-            (named_link (ports_of tables.now counts master) (index, connection.now)))
+        (named_link (ports_of tables.now counts master) (index, connection.now)))
         result }
 {
     match &connection.value {
@@ -99,7 +99,7 @@ fn values_places(
 ) -> InstancePlaces
     ensures { (counts : List ℕ) → AreFirst
         (λ rule. links_places rule scope.now (ports_of tables.now counts master)
-            (flat_map ordered_link (enumerate_from 0 values.now)))
+        (flat_map ordered_link (enumerate_from 0 values.now)))
         result }
 {
     let mut places = no_places();
@@ -119,8 +119,8 @@ fn connections_places(
 ) -> InstancePlaces
     ensures { (counts : List ℕ) → AreFirst
         (λ rule. links_places rule scope.now (ports_of tables.now counts master)
-            (flat_map (named_link (ports_of tables.now counts master))
-                (enumerate_from 0 connections.now)))
+        (flat_map (named_link (ports_of tables.now counts master))
+        (enumerate_from 0 connections.now)))
         result }
 {
     let mut places = no_places();
@@ -140,7 +140,7 @@ pub fn links_places(
 ) -> InstancePlaces
     ensures { (counts : List ℕ) → AreFirst
         (λ rule. links_places rule scope.now (ports_of tables.now counts master)
-            (links (ports_of tables.now counts master) connections.now))
+        (links (ports_of tables.now counts master) connections.now))
         result }
 {
     match connections {

@@ -35,7 +35,7 @@ fn items_places(
     ensures { IfOk result (λ places. (of : List ℕ → MasterValue) →
         references.now ≡ references_in of items.now → AreFirst
         (λ rule. places_in rule scope.now
-            (record { of = of; tables = tables.now; counts = counts.now }) items.now)
+        (record { of = of; tables = tables.now; counts = counts.now }) items.now)
         places) }
 {
     let mut places = no_places();
@@ -66,5 +66,12 @@ pub fn instance_places(
         references.now ≡ references_in of «module».now.items → places ≡ first_places scope.now
         (record { of = of; tables = tables.now; counts = counts.now }) «module».now) }
 {
-    items_places(alloc, scope, tables, counts, references, module.items.as_slice())
+    items_places(
+        alloc,
+        scope,
+        tables,
+        counts,
+        references,
+        module.items.as_slice(),
+    )
 }

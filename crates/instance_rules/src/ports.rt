@@ -32,12 +32,7 @@ pub fn port_index(tables: &[PortTable], module: usize, name: &[u8]) -> Option<us
 }
 
 /// The port that a named connection connects, where it is the one of an index in its instance.
-pub fn named_port(
-    tables: &[PortTable],
-    master: Master,
-    index: usize,
-    name: &[u8],
-) -> Option<usize>
+pub fn named_port(tables: &[PortTable], master: Master, index: usize, name: &[u8]) -> Option<usize>
     ensures { (counts : List ℕ) →
         result ≡ named_port (ports_of tables.now counts master) index name.now }
 {
@@ -70,11 +65,7 @@ fn port_width(tables: &[PortTable], module: usize, port: usize) -> Option<u64>
 }
 
 /// The width that an expression at a port has to have, where there is one to keep.
-pub fn width_at(
-    tables: &[PortTable],
-    master: Master,
-    port: Option<usize>,
-) -> Option<u64>
+pub fn width_at(tables: &[PortTable], master: Master, port: Option<usize>) -> Option<u64>
     ensures { (counts : List ℕ) → result ≡ width_at (ports_of tables.now counts master) port }
 {
     match (master, port) {
@@ -109,11 +100,7 @@ fn is_output(tables: &[PortTable], module: usize, port: usize) -> bool
 }
 
 /// Whether a port is an output or an inout.
-pub fn is_output_at(
-    tables: &[PortTable],
-    master: Master,
-    port: Option<usize>,
-) -> bool
+pub fn is_output_at(tables: &[PortTable], master: Master, port: Option<usize>) -> bool
     ensures { (counts : List ℕ) → result ≡ is_output_at (ports_of tables.now counts master) port }
 {
     match (master, port) {
