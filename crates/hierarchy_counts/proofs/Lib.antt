@@ -1,0 +1,2 @@
+pub mod HierarchyLaws
+pub mod RoundLemmas
