@@ -1,2 +1,3 @@
 pub mod HierarchyLaws
 pub mod RoundLemmas
+pub mod WithinLemmas

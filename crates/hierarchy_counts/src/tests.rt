@@ -1,10 +1,14 @@
+ghost use Rattle.std.specs.Prelude.{◌≡◌, IfOk};
+
 use super::*;
 use list_of::ListOf;
 use std::alloc::{AllocError, Global};
 use std::test::Fail;
 
 /// An instance of a module, with so many bits that are connected outside.
-fn instance(master: usize, bound: u64) -> InstanceCounts {
+fn instance(master: usize, bound: u64) -> InstanceCounts
+    ensures { result ≡ record { master = master; bound = bound } }
+{
     InstanceCounts { master, bound }
 }
 
@@ -18,26 +22,19 @@ fn module(nets: u64, elements: u64, names: u64) -> ModuleCounts {
 }
 
 /// A list of instances.
-fn list(alloc: Global, instances: &[InstanceCounts]) -> Result<InstanceCountsList, AllocError> {
+fn list(alloc: Global, instances: &[InstanceCounts]) -> Result<InstanceCountsList, AllocError>
+    ensures { IfOk result (λ list. list ≡ instances.now) }
+{
     Ok(ListOf::from_vec(Vec::from_slice(alloc, instances)?))
 }
-
-/// A pair of small numbers.
-static PAIR: [InstanceCounts; 2] = [
-    InstanceCounts {
-        master: 1,
-        bound: 2,
-    },
-    InstanceCounts {
-        master: 1,
-        bound: 1,
-    },
-];
 
 #[test]
 fn each_instance_is_counted_without_its_bound_nets(rt: HostRuntime) -> Result<(), Fail> {
     let modules = [module(10, 100, 1000), module(3, 5, 7)];
-    let instances = [list(rt.alloc(), &PAIR)?, list(rt.alloc(), &[])?];
+    let instances = [
+        list(rt.alloc(), &[instance(1, 2), instance(1, 1)])?,
+        list(rt.alloc(), &[])?,
+    ];
     let counts = hierarchy_counts(rt.alloc(), &modules, &instances, 0)?;
     let wanted = HierarchyCounts {
         depth: 2,
@@ -52,7 +49,10 @@ fn each_instance_is_counted_without_its_bound_nets(rt: HostRuntime) -> Result<()
 #[test]
 fn a_module_alone_is_one_deep(rt: HostRuntime) -> Result<(), Fail> {
     let modules = [module(10, 100, 4_294_967_297), module(3, 5, 7)];
-    let instances = [list(rt.alloc(), &[])?, list(rt.alloc(), &PAIR)?];
+    let instances = [
+        list(rt.alloc(), &[])?,
+        list(rt.alloc(), &[instance(1, 2), instance(1, 1)])?,
+    ];
     let counts = hierarchy_counts(rt.alloc(), &modules, &instances, 0)?;
     let wanted = HierarchyCounts {
         depth: 1,
