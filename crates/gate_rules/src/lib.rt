@@ -12,3 +12,6 @@ mod widths;
 
 pub use classes::{GateClass, gate_class};
 pub use places::{GatePlaces, gate_places};
+
+#[cfg(test)]
+mod tests;
