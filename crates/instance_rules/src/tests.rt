@@ -27,7 +27,8 @@ pub struct InstanceRow {
 }
 
 /// Line 1 of each text: the modules and primitives that the rows instantiate.
-const LIBRARY: &str = "module m(a, b, c); input a; output [1:0] b; inout c; endmodule module none; endmodule module empty(); endmodule module twice(a, a, b); input [0:1] a; output b; endmodule module bare(x, y); input [2:0] y; endmodule module ansi(output [3:0] y, input [7:4] d, e, input f); endmodule primitive inv(q, i); output q; input i; table 0 : 1 ; 1 : 0 ; endtable endprimitive primitive both(output q, input i, j); table 1 1 : 1 ; endtable endprimitive\n";
+const LIBRARY: &str =
+    "module m(a, b, c); input a; output [1:0] b; inout c; endmodule module none; endmodule module empty(); endmodule module twice(a, a, b); input [0:1] a; output b; endmodule module bare(x, y); input [2:0] y; endmodule module ansi(output [3:0] y, input [7:4] d, e, input f); endmodule primitive inv(q, i); output q; input i; table 0 : 1 ; 1 : 0 ; endtable endprimitive primitive both(output q, input i, j); table 1 1 : 1 ; endtable endprimitive\n";
 
 fn scope_of(alloc: Global, module: &Module) -> Result<Scope, AllocError> {
     Scope::new(alloc, module, Some(ImplicitNetType::Wire))
