@@ -175,6 +175,22 @@ pub pass-passed : (netlist : Netlist) (m : Machine) (cells : List CellState) →
 unfolding pass evaluate first_phase settle mature
 pass-passed netlist m cells e = ap (passed m) e
 
+-- the pass of a machine whose elements and islands stand in lists of their own
+pub pass-whole : (netlist : Netlist) → IsSound netlist.parts → (m : Machine) (forced : List Signal) → AreForced netlist.parts m.inputs forced →
+    (elements islands : List CellState) → m.cells ≡ elements ++ islands → length elements ≡ length netlist.parts.elements →
+    length islands ≡ length netlist.parts.islands →
+    (grown done : List CellState) → done ≡ islands_after netlist m.time forced (ripe m.time elements) (ripe m.time islands) →
+    grown ≡ elements_after netlist m.time done (ripe m.time elements) →
+    (passes : ℕ) (last : List Signal) → passes ≡ one_more m.passes → last ≡ m.inputs →
+    (let n : Machine = record { time = m.time; passes = passes; has_passed = true; inputs = m.inputs; last_inputs = last; cells = grown ++ done } in n)
+    ≡ pass netlist m
+pass-whole netlist sound m forced are elements islands halved long wide grown done settled aimed passes last count same =
+    let cells : (pass netlist m).cells ≡ grown ++ done =
+    pass-cells netlist sound m forced are elements islands halved long wide done settled ∙ ap (λ (l : List CellState). l ++ done) (sym aimed) in
+    ap (λ (k : ℕ). let n : Machine = record { time = m.time; passes = k; has_passed = true; inputs = m.inputs; last_inputs = last; cells = grown ++ done } in n) count
+    ∙ ap (λ (l : List Signal). let n : Machine = record { time = m.time; passes = one_more m.passes; has_passed = true; inputs = m.inputs; last_inputs = l; cells = grown ++ done } in n) same
+    ∙ sym (pass-passed netlist m (grown ++ done) cells)
+
 -- ---- the start
 
 pub start-cells : (netlist : Netlist) →
