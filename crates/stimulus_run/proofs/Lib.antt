@@ -1,0 +1,4 @@
+pub mod Rest
+pub mod NextTicks
+pub mod Filtering
+pub mod Stepping
