@@ -9,3 +9,6 @@ mod times;
 mod views;
 
 pub use run::PlainRun;
+
+#[cfg(test)]
+mod tests;

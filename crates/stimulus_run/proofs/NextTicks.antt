@@ -1,5 +1,5 @@
 -- The next tick of a run is the time of the first line that isn't done, or the least due time.
-use Rattle.std.proofs.Common.{◌≡◌, ◌⊎◌, ℕ, zero, suc, ◌+◌, ◌<◌, ◌≤◌, min, List, [], ◌∷◌, ◌++◌, length, get_or, Option, Some, None, refl, ap, sym, ◌∙◌, subst, arith, inl, inr, length-append}
+use Rattle.std.proofs.Common.{◌≡◌, ◌⊎◌, ℕ, zero, suc, ◌+◌, ◌-◌, ◌<◌, ◌≤◌, min, List, [], ◌∷◌, ◌++◌, length, get_or, Option, Some, None, refl, ap, sym, ◌∙◌, subst, arith, inl, inr, length-append}
 use Rattle.std.specs.Prelude.{All, Contains, map, nat_le, slice_get}
 use Rattle.std.specs.Option.{option_map}
 use Rattle.std.proofs.lemmas.Bool.{cases_lt, le-leb, lt-leb}
@@ -116,7 +116,7 @@ module _ (schedule : Schedule) (tick : ℕ) (due : List ℕ) (a b : Option ℕ) 
   candidate n listed later first = elim (cases_lt schedule.end n) [
     | inl past ↦
         none-once schedule tick due (λ t there lt. let le = first t there lt in omega arith)
-        ∙ sym (rw (lt-leb schedule.end n past) refl)
+        ∙ sym (rw (lt-leb n schedule.end past) refl)
     | inr within ↦
         next-once schedule tick due n (record { listed = listed; later = later; ended = within; first = λ t there lt le. first t there lt })
         ∙ sym (rw (le-leb n schedule.end within) refl)

@@ -124,11 +124,12 @@ pass-time netlist m = refl
 further-time : (netlist : Netlist) (left : ℕ) (m : Machine) → (further (machines netlist) left m).time ≡ m.time
 unfolding further
 further-time netlist zero m = refl
-further-time netlist (suc left) m = by_test (is_machine_due m)
+further-time netlist (suc left) m = by_test (is_machine_due m) (further-time netlist left (pass netlist m) ∙ pass-time netlist m)
   where
-    by_test : (b : Bool) → (cond b (further (machines netlist) left (pass netlist m)) m).time ≡ m.time
-    by_test true = further-time netlist left (pass netlist m) ∙ pass-time netlist m
-    by_test false = refl
+    by_test : (b : Bool) → (further (machines netlist) left (pass netlist m)).time ≡ m.time →
+        (cond b (further (machines netlist) left (pass netlist m)) m).time ≡ m.time
+    by_test true e = e
+    by_test false e = refl
 
 pub step_at-time : (netlist : Netlist) (limit tick : ℕ) (inputs : List Signal) (m : Machine) →
     (step_at (machines netlist) limit tick inputs m).time ≡ tick

@@ -81,7 +81,7 @@ run_with Over p = no_steps
 
 -- what is read of the outputs after the step that ended last
 abbrev pub strobe_of : Progress → Option StimulusWhat
-strobe_of p = option_and_then p.ended (strobe_at p.stimulus.lines)
+strobe_of p = option_and_then (strobe_at p.stimulus.lines) p.ended
 
 -- the signal that is seen of a net
 abbrev pub seen_signal : Progress → ℕ → Signal
