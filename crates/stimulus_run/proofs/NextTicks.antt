@@ -78,9 +78,11 @@ in-left xs ys t (k, lt, e) = (k, (let n = length-append xs ys in omega arith), g
 
 in-right : (xs ys : List ℕ) (t : ℕ) → Contains ys t → Contains (xs ++ ys) t
 in-right xs ys t (k, lt, e) =
-    let back : length xs + k - length xs ≡ k = omega arith in
-    (length xs + k, (let n = length-append xs ys in omega arith),
-    get_or-append_right xs ys (length xs) (length xs + k) t refl (omega arith) ∙ ap (λ (i : ℕ). get_or ys i t) back ∙ e)
+    let back : length xs + k - length xs ≡ k = omega arith in (
+      length xs + k,
+      (let n = length-append xs ys in omega arith),
+      get_or-append_right xs ys (length xs) (length xs + k) t refl (omega arith) ∙ ap (λ (i : ℕ). get_or ys i t) back ∙ e,
+    )
 
 module _ (schedule : Schedule) (tick : ℕ) (due : List ℕ) where
   next-once : (n : ℕ) → IsNextTick schedule tick due n → next_tick schedule tick due ≡ Some n
@@ -181,9 +183,10 @@ lines-first lines at tick d done rise = elim (cases_lt at (length lines)) [
         there = λ n e.
             let f : Some line.time ≡ Some n = sym found ∙ e in
             let same : line.time ≡ n = cc in
-            let size = length-map lines (λ (l : StimulusLine). l.time) in
-            ((at, omega arith, get_or-map (λ (l : StimulusLine). l.time) lines at d n within ∙ same),
-            (let late = done.late at d (omega arith) within in omega arith));
+            let size = length-map lines (λ (l : StimulusLine). l.time) in (
+              (at, omega arith, get_or-map (λ (l : StimulusLine). l.time) lines at d n within ∙ same),
+              (let late = done.late at d (omega arith) within in omega arith),
+            );
         before = λ n t e there lt.
             let f : Some line.time ≡ Some n = sym found ∙ e in
             let same : line.time ≡ n = cc in

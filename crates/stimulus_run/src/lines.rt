@@ -30,12 +30,7 @@ fn take_line(nets: &[u32], what: &StimulusWhat, outputs: usize, forced: &mut [Ra
 
 /// Takes over the lines up to a tick, where the first lines before it are done: the last values stay
 /// in force. The answer says how many lines are done then.
-pub(crate) fn take_lines(
-    stimulus: &Stimulus,
-    done: usize,
-    tick: u64,
-    forced: &mut [Range],
-) -> usize
+pub(crate) fn take_lines(stimulus: &Stimulus, done: usize, tick: u64, forced: &mut [Range]) -> usize
     requires nets { AreDistinctNets (length forced.old) stimulus.now.inputs }
     requires widths { HaveWidths stimulus.now }
     requires order { DoTimesRise stimulus.now.lines }

@@ -8,7 +8,11 @@ use vector_text::StimulusLine;
 fn line_time(lines: &[StimulusLine], at: usize) -> Option<u64>
     ensures { result ≡ line_time_of lines.now at }
 {
-    if at < lines.len() { Some(lines[at].time) } else { None }
+    if at < lines.len() {
+        Some(lines[at].time)
+    } else {
+        None
+    }
 }
 
 /// The lesser of the times, where that is no later than the end.
