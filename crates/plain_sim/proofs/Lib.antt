@@ -1,0 +1,5 @@
+pub mod Stepping
+pub mod Places
+pub mod Passes
+pub mod Pending
+pub mod Inputs

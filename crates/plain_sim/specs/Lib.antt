@@ -1,0 +1,5 @@
+pub mod Plain
+pub mod Lists
+pub mod Inside
+pub mod Times
+pub mod Phases

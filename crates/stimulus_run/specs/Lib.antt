@@ -1,0 +1,5 @@
+pub mod Inputs
+pub mod Progress
+pub mod Lines
+pub mod Inside
+pub mod Ticks

@@ -1,0 +1,16 @@
+-- For the code and its proofs alone: the time of the next step, by the line that isn't done and the least due time.
+use Rattle.std.specs.Prelude.{ℕ, List, length, Option, Some, None, nat_le, nat_lt, if◌then◌else◌, slice_get}
+use Rattle.std.specs.Option.{option_map}
+use Rattle.plain_sim.specs.Times.{earlier}
+use Rattle.vector_text.specs.declared.stimulus.StimulusLine.{StimulusLine}
+
+abbrev pub line_time : List StimulusLine → ℕ → Option ℕ
+line_time lines at = option_map (λ (line : StimulusLine). line.time) (slice_get lines at)
+
+-- a time that is no later than the end
+abbrev pub up_to : ℕ → Option ℕ → Option ℕ
+up_to end None = None
+up_to end (Some time) = if nat_le time end then Some time else None
+
+abbrev pub earlier_up_to : ℕ → Option ℕ → Option ℕ → Option ℕ
+earlier_up_to end a b = up_to end (earlier a b)
