@@ -1,5 +1,5 @@
 -- The rule on the headers of primitives (IEEE 1364-2005, 8.1.1 to 8.1.4).
-use Rattle.std.specs.Prelude.{ℕ, nat_eq, nat_lt, Bool, not, ◌&&◌, ◌||◌, List, length, map}
+use Rattle.std.specs.Prelude.{ℕ, nat_eq, nat_lt, Bool, not, ◌&&◌, ◌||◌, List, length, if◌then◌else◌}
 use Rattle.std.specs.List.{list_any, count_by}
 use Rattle.std.specs.Option.{is_none}
 use Rattle.name_table.specs.Names.{same_name, is_among}

@@ -1,7 +1,7 @@
 -- Why the arguments of a primitive are refused, and where.
-use Rattle.std.specs.Prelude.{ℕ, nat_le, Bool, not, ◌&&◌, List, [], ◌∷◌, Option, Some, None, slice_index_or, if◌then◌else◌}
+use Rattle.std.specs.Prelude.{ℕ, suc, nat_le, Bool, not, ◌&&◌, List, [], ◌∷◌, Option, Some, None, slice_get, if◌then◌else◌}
 use Rattle.std.specs.List.{position}
-use Rattle.std.specs.Option.{option_map, option_or}
+use Rattle.std.specs.Option.{option_map, option_or, unwrap_or}
 use Rattle.v_tree.specs.declared.locations.Location.{Location}
 use Rattle.v_tree.specs.declared.primitives.PlacedRow.{PlacedRow}
 use Rattle.v_tree.specs.declared.primitives.UdpDecl.{UdpDecl}
@@ -23,13 +23,13 @@ is_count inputs = nat_le 1 inputs && nat_le inputs 10
 
 -- a pair of rows, each one row further
 abbrev pub next_pair : ℕ × ℕ → ℕ × ℕ
-next_pair pair = (1 + pair.0, 1 + pair.1)
+next_pair pair = (suc pair.0, suc pair.1)
 
 -- the least pair of rows that overlap and whose outputs differ: the least first row, then the least second
 abbrev pub first_clash : List UdpRow → Option (ℕ × ℕ)
 first_clash [] = None
 first_clash (row ∷ rows) =
-    option_or (option_map (λ k. (0, 1 + k)) (position (clash_test row) rows)) (option_map next_pair (first_clash rows))
+    option_or (option_map (λ k. (0, suc k)) (position (clash_test row) rows)) (option_map next_pair (first_clash rows))
 
 -- the first cause that the rows give
 abbrev pub rows_refusal : ℕ → Bool → List UdpRow → Option UdpFault
@@ -44,7 +44,7 @@ refusal_of a = if is_count a.inputs then rows_refusal a.inputs a.sequential a.ro
 
 -- the first token of a row
 abbrev pub row_place : UdpDecl → ℕ → Location
-row_place udp k = slice_index_or (map (λ r. r.location) udp.rows) k udp.name.location
+row_place udp k = unwrap_or (option_map (λ r. r.location) (slice_get udp.rows k)) udp.name.location
 
 -- where a fault stands: at its row, that of a clash at the later row, and too many inputs at the name
 abbrev pub fault_place : UdpDecl → UdpFault → Location

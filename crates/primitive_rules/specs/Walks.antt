@@ -1,5 +1,5 @@
 -- For the code alone: the first places so far, and those of one more primitive.
-use Rattle.std.specs.Prelude.{Bool, if◌then◌else◌}
+use Rattle.std.specs.Prelude.{Bool, List, [], ◌∷◌, None, if◌then◌else◌}
 use Rattle.v_tree.specs.declared.primitives.UdpDecl.{UdpDecl}
 use Rattle.rule_places.specs.Places.{earliest, first_place}
 use Rattle.primitive_rules.specs.declared.places.PrimitivePlaces.{PrimitivePlaces}
@@ -16,3 +16,13 @@ with_places places udp = record {
 -- the same, where the primitive is reached
 abbrev pub with_udp : PrimitivePlaces → Bool → UdpDecl → PrimitivePlaces
 with_udp places is_reached udp = if is_reached then with_places places udp else places
+
+-- no rule is broken
+abbrev pub no_places : PrimitivePlaces
+no_places = record { tables = None; headers = None }
+
+-- the same with those of several primitives
+abbrev pub with_all : PrimitivePlaces → List Bool → List UdpDecl → PrimitivePlaces
+with_all places [] udps = places
+with_all places (is_reached ∷ reached) [] = places
+with_all places (is_reached ∷ reached) (udp ∷ udps) = with_all (with_udp places is_reached udp) reached udps

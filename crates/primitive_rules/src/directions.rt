@@ -130,8 +130,8 @@ fn item_has_output(text: &[u8], item: &UdpItem) -> bool
 
 /// Whether some declaration is that of an output of this name.
 fn items_have_output(text: &[u8], items: &[UdpItem]) -> bool
-    ensures { result ≡ list_any (λ name. same_name text.now name.text)
-        (flat_map item_outputs items.now) }
+    ensures { result ≡ list_any
+        (λ item. list_any (λ name. same_name text.now name.text) (item_outputs item)) items.now }
 {
     items.iter().any(|item| item_has_output(text, item))
 }
@@ -176,8 +176,8 @@ fn item_has_other(first: &[u8], counts: &NameCounts, item: &UdpItem) -> bool
 
 /// Whether some declaration is that of another port as an output.
 fn items_have_other(first: &[u8], counts: &NameCounts, items: &[UdpItem]) -> bool
-    ensures { result ≡ list_any (λ name. not (same_name first.now name.text)
-        && is_among name.text counts.now.seen) (flat_map item_outputs items.now) }
+    ensures { result ≡ list_any (λ item. list_any (λ name. not (same_name first.now name.text)
+        && is_among name.text counts.now.seen) (item_outputs item)) items.now }
 {
     items.iter().any(|item| item_has_other(first, counts, item))
 }

@@ -1,7 +1,7 @@
 //! The values of literals that a primitive's state may start with.
 ghost use Rattle.std.specs.Prelude.{◌≡◌};
 ghost use Rattle.std.specs.List.{list_all};
-ghost use Rattle.primitive_rules.specs.Starts.{bit_value, bits_value, is_x, is_zero, number_value, small_number, start_value};
+ghost use Rattle.primitive_rules.specs.Starts.{bit_value, bits_value, is_x, is_zero, last_value, number_value, small_number, start_value};
 
 use level_range::Logic;
 use v_lexer::Bit;
@@ -39,20 +39,31 @@ fn are_all_x(bits: &[Bit]) -> bool
     bits.iter().all(|bit| is_x(*bit))
 }
 
+/// Whether all bits are 0.
+fn are_zeros(bits: &[Bit]) -> bool
+    ensures { result ≡ list_all is_zero bits.now }
+{
+    bits.iter().all(|bit| is_zero(*bit))
+}
+
+/// The value of the last bit.
+fn last_value(bits: &[Bit]) -> Option<Logic>
+    ensures { result ≡ last_value bits.now }
+{
+    match bits.last() {
+        Some(bit) => bit_value(*bit),
+        None => None,
+    }
+}
+
 /// The number of bits from the left, where it is 0 or 1.
 fn small_number(bits: &[Bit]) -> Option<Logic>
     ensures { result ≡ small_number bits.now }
 {
-    match bits {
-        [] => None,
-        [bit] => bit_value(*bit),
-        [bit, rest @ ..] => {
-            if is_zero(*bit) {
-                small_number(rest)
-            } else {
-                None
-            }
-        }
+    if are_zeros(&bits[..bits.len().saturating_sub(1)]) {
+        last_value(bits)
+    } else {
+        None
     }
 }
 

@@ -1,10 +1,10 @@
 //! The `reg` and the `initial` of primitives.
-ghost use Rattle.std.specs.Prelude.{◌≡◌, ◌≤◌, length, nat_lt, not};
-ghost use Rattle.std.specs.List.{list_any, flat_map};
+ghost use Rattle.std.specs.Prelude.{◌≡◌, ◌≤◌, length, nat_lt, not, if◌then◌else◌};
+ghost use Rattle.std.specs.List.{list_any, count_by};
 ghost use Rattle.name_table.specs.Names.{same_name};
 ghost use Rattle.primitive_rules.specs.Arguments.{is_empty};
-ghost use Rattle.primitive_rules.specs.Ports.{Start, first_port, name_if, header_regs, item_regs, header_starts, item_starts, initial_starts, start_if, starts};
-ghost use Rattle.primitive_rules.specs.Headers.{breaks_regs, breaks_starts, is_wrong_start};
+ghost use Rattle.primitive_rules.specs.Ports.{Start, first_port, name_if, header_regs, item_regs, regs, header_starts, item_starts, initial_starts, start_if, starts};
+ghost use Rattle.primitive_rules.specs.Headers.{breaks_regs, breaks_starts, is_wrong_start, names_first};
 
 use crate::ports::{first_port, header_has_reg, is_named, item_has_reg};
 use crate::starts::start_value;
@@ -42,29 +42,48 @@ fn item_has_other_reg(first: &[u8], item: &UdpItem) -> bool
 
 /// Whether some declaration has a `reg` of another name.
 fn items_have_other_reg(first: &[u8], items: &[UdpItem]) -> bool
-    ensures { result ≡ list_any (λ name. not (same_name first.now name.text))
-        (flat_map item_regs items.now) }
+    ensures { result ≡ list_any (λ item. list_any (λ name. not (same_name first.now name.text))
+        (item_regs item)) items.now }
 {
     items.iter().any(|item| item_has_other_reg(first, item))
 }
 
 /// How many declarations have a `reg`.
 fn count_regs(items: &[UdpItem]) -> usize
-    ensures count { result ≡ length (flat_map item_regs items.now) }
+    ensures count { result ≡ count_by (λ item. not (is_empty (item_regs item))) items.now }
     ensures bound { result ≤ length items.now }
 {
     items.iter().filter(|item| item_has_reg(item)).count()
+}
+
+/// 1 where the test holds, else 0.
+fn one_if(holds: bool) -> usize
+    ensures { result ≡ (if holds then 1 else 0) }
+{
+    if holds { 1 } else { 0 }
+}
+
+/// Whether there are several `reg`.
+fn has_several_regs(udp: &UdpDecl) -> bool
+    ensures { result ≡ nat_lt 1 (length (regs udp.now)) }
+{
+    let header = one_if(header_has_reg(&udp.ports));
+    count_regs(udp.items.as_slice()) + header > 1
+}
+
+/// Whether some `reg` is of another name than the first port.
+fn has_other_reg(udp: &UdpDecl) -> bool
+    ensures { result ≡ list_any (λ name. not (names_first udp.now name)) (regs udp.now) }
+{
+    let first = first_port(&udp.ports);
+    header_has_other_reg(first, &udp.ports) || items_have_other_reg(first, udp.items.as_slice())
 }
 
 /// Whether a `reg` is of another name than the first port, or stands twice.
 pub fn breaks_regs(udp: &UdpDecl) -> bool
     ensures { result ≡ breaks_regs udp.now }
 {
-    let first = first_port(&udp.ports);
-    let items = udp.items.as_slice();
-    header_has_other_reg(first, &udp.ports)
-        || items_have_other_reg(first, items)
-        || count_regs(items) + usize::from(header_has_reg(&udp.ports)) > 1
+    has_other_reg(udp) || has_several_regs(udp)
 }
 
 /// Whether an `initial` is of another name, or its literal is no start value.
@@ -106,7 +125,8 @@ fn item_has_wrong_start(first: &[u8], item: &UdpItem) -> bool
 
 /// Whether some declaration has such a start value.
 fn items_have_wrong_start(first: &[u8], items: &[UdpItem]) -> bool
-    ensures { result ≡ list_any (is_wrong_start first.now) (flat_map item_starts items.now) }
+    ensures { result ≡ list_any
+        (λ item. list_any (is_wrong_start first.now) (item_starts item)) items.now }
 {
     items.iter().any(|item| item_has_wrong_start(first, item))
 }
@@ -143,7 +163,7 @@ fn item_has_start(item: &UdpItem) -> bool
 
 /// How many declarations have a start value.
 fn count_starts(items: &[UdpItem]) -> usize
-    ensures count { result ≡ length (flat_map item_starts items.now) }
+    ensures count { result ≡ count_by (λ item. not (is_empty (item_starts item))) items.now }
     ensures bound { result ≤ length items.now }
 {
     items.iter().filter(|item| item_has_start(item)).count()
@@ -153,8 +173,8 @@ fn count_starts(items: &[UdpItem]) -> usize
 fn has_several_starts(udp: &UdpDecl) -> bool
     ensures { result ≡ nat_lt 1 (length (starts udp.now)) }
 {
-    let header = usize::from(header_has_start(&udp.ports));
-    let initial = usize::from(udp.initial.is_some());
+    let header = one_if(header_has_start(&udp.ports));
+    let initial = one_if(udp.initial.is_some());
     header + count_starts(udp.items.as_slice()) + initial > 1
 }
 
