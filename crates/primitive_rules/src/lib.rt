@@ -15,3 +15,6 @@ mod states;
 pub use arguments::{UdpArguments, arguments_of};
 pub use building::udp_of;
 pub use places::PrimitivePlaces;
+
+#[cfg(test)]
+mod tests;
