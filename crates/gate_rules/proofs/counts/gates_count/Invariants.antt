@@ -1,0 +1,8 @@
+use Rattle.std.proofs.Common.{◌≡◌, take}
+use Rattle.std.specs.List.{flat_map}
+use Rattle.rule_places.specs.Places.{first_place}
+use Rattle.gate_rules.specs.Rules.{terms_counts}
+use Rattle.gate_rules.proofs.counts.gates_count.Given as goal
+
+abbrev pub invariant-loop-terms : goal.invariant-loop-terms
+invariant-loop-terms l = l.first ≡ first_place (flat_map (terms_counts l.class) (take l.terms-index l.gates))

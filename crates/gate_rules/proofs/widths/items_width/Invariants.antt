@@ -1,0 +1,8 @@
+use Rattle.std.proofs.Common.{◌≡◌, take}
+use Rattle.std.specs.List.{flat_map}
+use Rattle.rule_places.specs.Places.{first_place}
+use Rattle.gate_rules.specs.Rules.{item_widths}
+use Rattle.gate_rules.proofs.widths.items_width.Given as goal
+
+abbrev pub invariant-loop-item : goal.invariant-loop-item
+invariant-loop-item l = l.first ≡ first_place (flat_map (item_widths l.scope) (take l.item-index l.items))

@@ -1,0 +1,8 @@
+use Rattle.std.proofs.Common.{◌≡◌, take}
+use Rattle.std.specs.List.{flat_map}
+use Rattle.rule_places.specs.Places.{first_place}
+use Rattle.gate_rules.specs.Rules.{terminal_widths}
+use Rattle.gate_rules.proofs.widths.terminals_width.Given as goal
+
+abbrev pub invariant-loop-terminal : goal.invariant-loop-terminal
+invariant-loop-terminal l = l.first ≡ first_place (flat_map (terminal_widths l.scope) (take l.terminal-index l.terminals))
