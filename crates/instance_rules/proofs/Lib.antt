@@ -1,0 +1,4 @@
+pub mod Seeing
+pub mod Linking
+pub mod Naming
+pub mod Walking

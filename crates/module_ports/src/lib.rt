@@ -1,0 +1,8 @@
+//! The ports of a module, in the order of its header, found by their names.
+#![tactic(auto)]
+
+mod entries;
+mod header;
+mod table;
+
+pub use table::PortTable;
