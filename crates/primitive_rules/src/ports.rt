@@ -33,14 +33,21 @@ pub fn first_port(ports: &UdpPorts) -> &[u8]
     }
 }
 
+/// How many ports the header has.
+pub fn port_count(ports: &UdpPorts) -> usize
+    ensures { result ≡ length (header_names ports.now) }
+{
+    match ports {
+        UdpPorts::Names(names) => names.len(),
+        UdpPorts::Declared { inputs, .. } => inputs.as_slice().len() + 1,
+    }
+}
+
 /// One less than there are ports.
 pub fn input_count(ports: &UdpPorts) -> usize
     ensures { result ≡ length (header_names ports.now) - 1 }
 {
-    match ports {
-        UdpPorts::Names(names) => names.len().saturating_sub(1),
-        UdpPorts::Declared { inputs, .. } => inputs.len(),
-    }
+    port_count(ports).saturating_sub(1)
 }
 
 /// Whether the header declares its output as `reg`.
