@@ -43,8 +43,8 @@ abbrev pub places_from : File → Graph → Option ℕ → List RulePlaces
 places_from file graph top = places_with file graph top (reached_from graph top)
 
 -- all rules on a file under a choice of its top, each with all places that break it
-abbrev pub rule_places : File → Option (List ℕ) → List RulePlaces
-rule_places file choice = places_from file (graph_of file.modules file.udps) (top_of (graph_of file.modules file.udps) choice)
+abbrev pub all_rules : File → Option (List ℕ) → List RulePlaces
+all_rules file choice = places_from file (graph_of file.modules file.udps) (top_of (graph_of file.modules file.udps) choice)
 
 -- the answer is the first broken rule with the line of its first place, and there is none exactly where no rule is broken
 abbrev pub IsAnswer : List RulePlaces → Option BrokenRule → Type 0

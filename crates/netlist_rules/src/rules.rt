@@ -4,7 +4,7 @@ ghost use Rattle.std.specs.Option.{option_copied};
 ghost use Rattle.module_graph.specs.Graph.{graph_of};
 ghost use Rattle.netlist_scopes.specs.Reached.{scope_under};
 ghost use Rattle.netlist_scopes.specs.Rules.{first_broken};
-ghost use Rattle.netlist_rules.specs.Rules.{IsAnswer, broken_rule, middle_rules, rule_places, rules_of, rules_with, udps_reached};
+ghost use Rattle.netlist_rules.specs.Rules.{IsAnswer, all_rules, broken_rule, middle_rules, rules_of, rules_with, udps_reached};
 ghost use Rattle.primitive_rules.specs.Places.{primitive_places};
 
 use crate::items::ItemPlaces;
@@ -75,7 +75,7 @@ impl Rules {
         ensures rules { IfOk result (λ rules.
             rules ≡ rules_of file.now (option_copied choice.entry)) }
         ensures answer { IfOk result (λ rules.
-            IsAnswer (rule_places file.now (option_copied choice.entry)) (broken_rule rules)) }
+            IsAnswer (all_rules file.now (option_copied choice.entry)) (broken_rule rules)) }
     {
         let scopes = Scopes::new(alloc, file, choice)?;
         rules_with(alloc, file, scopes)
