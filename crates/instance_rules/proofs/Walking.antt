@@ -18,7 +18,7 @@ use Rattle.instance_rules.specs.declared.places.InstancePlaces.{InstancePlaces}
 use Rattle.instance_rules.specs.Items.{InstanceRule, item_places}
 use Rattle.instance_rules.specs.Items.InstanceRule.{Widths, Counts, Delays, Drives, Connections, Literals}
 use Rattle.instance_rules.specs.Links.{ports_of}
-use Rattle.instance_rules.specs.Places.{Masters, first_places, breaking_places, instance_of, instance_places, instances_in, places_in}
+use Rattle.instance_rules.specs.Places.{Masters, instance_places, breaking_places, instance_of, places_under, instances_in, places_in}
 use Rattle.instance_rules.specs.Walks.{AreFirst, earliest_places, master_at, master_in, no_places, place_of}
 use Rattle.instance_rules.proofs.Seeing.{place_of-earliest, place_of-none}
 
@@ -76,10 +76,10 @@ module _ (scope : Scope) (masters : Masters) (references : List Reference) (item
 
       -- the places that are left are those of this item and those of the rest
       left_places : (rule : InstanceRule) (o : Option Instance) → instance_of x ≡ o →
-          places_in rule scope masters (drop index items) ≡ flat_map (instance_places rule scope masters) (cons_option o (instances_in (drop (index + 1) items)))
+          places_in rule scope masters (drop index items) ≡ flat_map (places_under rule scope masters) (cons_option o (instances_in (drop (index + 1) items)))
       left_places rule o is =
           ap (places_in rule scope masters) left
-          ∙ ap (λ (p : Option Instance). flat_map (instance_places rule scope masters) (cons_option p (instances_in (drop (index + 1) items)))) is
+          ∙ ap (λ (p : Option Instance). flat_map (places_under rule scope masters) (cons_option p (instances_in (drop (index + 1) items)))) is
 
       abbrev others : InstanceRule → List Location
       others rule = places_in rule scope masters (drop (index + 1) items)
@@ -103,30 +103,11 @@ module _ (scope : Scope) (masters : Masters) (references : List Reference) (item
             seen = λ rule.
                 walked.seen rule
                 ∙ ap (λ (ls : List Location). earliest (place_of rule places) (first_place ls)) (left_places rule (Some i) some)
-                ∙ ap (λ (p : Option Location). earliest (place_of rule places) p) (first_place-append (instance_places rule scope masters i) (others rule))
-                ∙ sym (earliest_assoc (place_of rule places) (first_place (instance_places rule scope masters i)) (first_place (others rule)))
+                ∙ ap (λ (p : Option Location). earliest (place_of rule places) p) (first_place-append (places_under rule scope masters i) (others rule))
+                ∙ sym (earliest_assoc (place_of rule places) (first_place (places_under rule scope masters i)) (first_place (others rule)))
                 ∙ ap (λ (p : Option Location). earliest (earliest (place_of rule places) p) (first_place (others rule))) (same rule ∙ first rule)
                 ∙ ap (λ (p : Option Location). earliest p (first_place (others rule))) (sym (place_of-earliest rule places more));
           }
-
--- the first places of all rules
-pub first_places-AreFirst : (places : InstancePlaces) (scope : Scope) (masters : Masters) (m : Module) → AreFirst (λ rule. breaking_places rule scope masters m) places → places ≡ first_places scope masters m
-first_places-AreFirst places scope masters m first =
-    let widths = first Widths in
-    let counts = first Counts in
-    let delays = first Delays in
-    let drives = first Drives in
-    let connections = first Connections in
-    let literals = first Literals in
-    same places (first_places scope masters m) (sym widths) (sym counts) (sym delays) (sym drives) (sym connections) (sym literals)
-  where
-    made : (w c d v n l : Option Location) → InstancePlaces
-    made w c d v n l = record { widths = w; counts = c; delays = d; drives = v; connections = n; literals = l }
-
-    same : (a b : InstancePlaces) → a.widths ≡ b.widths → a.counts ≡ b.counts → a.delays ≡ b.delays → a.drives ≡ b.drives → a.connections ≡ b.connections → a.literals ≡ b.literals → a ≡ b
-    same a b w c d v n l =
-        let joined : made a.widths a.counts a.delays a.drives a.connections a.literals ≡ made b.widths b.counts b.delays b.drives b.connections b.literals = cc in
-        joined
 
 -- an item that isn't one of instances
 pub instance_of-none : (x : Item) → ((i : Instance) → x ≡ item.Instances i → ⊥) → instance_of x ≡ None

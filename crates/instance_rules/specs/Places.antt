@@ -37,20 +37,20 @@ pub record Masters : Type 0 where
   pub counts : List ℕ
 
 -- the places of an item, by what the name of its module means
-abbrev pub instance_places : InstanceRule → Scope → Masters → Instance → List Location
-instance_places rule scope masters i = item_places rule scope (ports_of masters.tables masters.counts (masters.of i.name.text)) i
+abbrev pub places_under : InstanceRule → Scope → Masters → Instance → List Location
+places_under rule scope masters i = item_places rule scope (ports_of masters.tables masters.counts (masters.of i.name.text)) i
 
 -- the places of items
 abbrev pub places_in : InstanceRule → Scope → Masters → List Item → List Location
-places_in rule scope masters items = flat_map (instance_places rule scope masters) (instances_in items)
+places_in rule scope masters items = flat_map (places_under rule scope masters) (instances_in items)
 
 -- the places of a module
 abbrev pub breaking_places : InstanceRule → Scope → Masters → Module → List Location
 breaking_places rule scope masters m = places_in rule scope masters m.items
 
 -- the first place of each rule, where it is broken
-abbrev pub first_places : Scope → Masters → Module → InstancePlaces
-first_places scope masters m = record {
+abbrev pub instance_places : Scope → Masters → Module → InstancePlaces
+instance_places scope masters m = record {
   widths = first_place (breaking_places Widths scope masters m);
   counts = first_place (breaking_places Counts scope masters m);
   delays = first_place (breaking_places Delays scope masters m);

@@ -11,3 +11,6 @@ mod ports;
 
 pub use modules::instance_places;
 pub use places::InstancePlaces;
+
+#[cfg(test)]
+mod tests;

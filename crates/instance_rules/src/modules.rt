@@ -2,7 +2,7 @@
 ghost use Rattle.std.specs.Prelude.{◌≡◌, ℕ, List, IfOk};
 ghost use Rattle.module_graph.specs.Graph.{references_in};
 ghost use Rattle.module_graph.specs.declared.references.Master.{Master as MasterValue};
-ghost use Rattle.instance_rules.specs.Places.{first_places, instance_of, places_in};
+ghost use Rattle.instance_rules.specs.Places.{instance_places, places_in};
 ghost use Rattle.instance_rules.specs.Walks.{AreFirst, master_at};
 
 use crate::items::item_places;
@@ -63,7 +63,7 @@ pub fn instance_places(
     counts: &[usize],
 ) -> Result<InstancePlaces, AllocError>
     ensures { IfOk result (λ places. (of : List ℕ → MasterValue) →
-        references.now ≡ references_in of «module».now.items → places ≡ first_places scope.now
+        references.now ≡ references_in of «module».now.items → places ≡ instance_places scope.now
         (record { of = of; tables = tables.now; counts = counts.now }) «module».now) }
 {
     items_places(

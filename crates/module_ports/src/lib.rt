@@ -6,3 +6,6 @@ mod header;
 mod table;
 
 pub use table::PortTable;
+
+#[cfg(test)]
+mod tests;
