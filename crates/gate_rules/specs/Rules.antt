@@ -1,5 +1,5 @@
 -- The places at which a gate, an assignment or a declaration breaks a rule.
-use Rattle.std.specs.Prelude.{Bool, not, List, [], ◌∷◌, length, take, Option, None, Some}
+use Rattle.std.specs.Prelude.{not, List, [], ◌∷◌, length, take, Option, None, Some}
 use Rattle.std.specs.List.{flat_map}
 use Rattle.v_tree.specs.declared.locations.Location.{Location}
 use Rattle.v_tree.specs.declared.locations.Name.{Name}

@@ -1,20 +1,9 @@
-use Rattle.std.proofs.Common.{◌≡◌, ◌<◌, List, length, take, Option, ap, sym, ◌∙◌, arith}
-use Rattle.std.specs.List.{flat_map}
-use Rattle.v_tree.specs.declared.locations.Location.{Location}
-use Rattle.v_tree.specs.declared.gates.Terms.{Terms}
-use Rattle.rule_places.specs.Places.{earliest, first_place}
-use Rattle.rule_places.proofs.PlaceLaws.{first_place-flat_map_more}
+use Rattle.std.proofs.Common.{arith}
 use Rattle.gate_rules.specs.Rules.{terms_literals}
+use Rattle.item_parts.proofs.Firsts.{next_first}
 use Rattle.gate_rules.proofs.literals.gates_literal.Goals as goal
 
 pub loop-terms-preserved : goal.loop-terms-preserved
 loop-terms-preserved c =
-    let xs = c.args.gates.now in
-    let i = c.loop-terms.terms-index in
-    let lt : i < length xs = omega arith in
-    let places : Terms → List Location = terms_literals c.args.class in
-    let so_far = first_place (flat_map places (take i xs)) in
-    c.earliest-first.ensures
-    ∙ ap (λ (first : Option Location). earliest first c.terms_literal.result) c.loop-terms.invariant
-    ∙ ap (λ (place : Option Location). earliest so_far place) (c.terms_literal.ensures ∙ ap (λ (x : Terms). first_place (places x)) c.terms-item.is)
-    ∙ sym (first_place-flat_map_more places xs i c.terms-item.result lt)
+    next_first (terms_literals c.args.class) c.args.gates.now c.loop-terms.terms-index c.terms-item.result c.loop-terms.first c.terms_literal.result c.earliest-first.result
+    (omega arith) c.terms-item.is c.loop-terms.invariant c.terms_literal.ensures c.earliest-first.ensures

@@ -1,20 +1,9 @@
-use Rattle.std.proofs.Common.{◌≡◌, ◌<◌, List, length, take, Option, ap, sym, ◌∙◌, arith}
-use Rattle.std.specs.List.{flat_map}
-use Rattle.v_tree.specs.declared.locations.Location.{Location}
-use Rattle.v_tree.specs.declared.modules.Item.{Item}
-use Rattle.rule_places.specs.Places.{earliest, first_place}
-use Rattle.rule_places.proofs.PlaceLaws.{first_place-flat_map_more}
+use Rattle.std.proofs.Common.{arith}
 use Rattle.gate_rules.specs.Rules.{item_literals}
+use Rattle.item_parts.proofs.Firsts.{next_first}
 use Rattle.gate_rules.proofs.literals.items_literal.Goals as goal
 
 pub loop-item-preserved : goal.loop-item-preserved
 loop-item-preserved c =
-    let xs = c.args.items.now in
-    let i = c.loop-item.item-index in
-    let lt : i < length xs = omega arith in
-    let places : Item → List Location = item_literals in
-    let so_far = first_place (flat_map places (take i xs)) in
-    c.earliest-first.ensures
-    ∙ ap (λ (first : Option Location). earliest first c.item_literal.result) c.loop-item.invariant
-    ∙ ap (λ (place : Option Location). earliest so_far place) (c.item_literal.ensures ∙ ap (λ (x : Item). first_place (places x)) c.item-item.is)
-    ∙ sym (first_place-flat_map_more places xs i c.item-item.result lt)
+    next_first item_literals c.args.items.now c.loop-item.item-index c.item-item.result c.loop-item.first c.item_literal.result c.earliest-first.result
+    (omega arith) c.item-item.is c.loop-item.invariant c.item_literal.ensures c.earliest-first.ensures
