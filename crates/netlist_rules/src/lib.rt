@@ -10,3 +10,6 @@ mod tables;
 pub use items::ItemPlaces;
 pub use rules::Rules;
 pub use tables::PortTableList;
+
+#[cfg(test)]
+mod tests;

@@ -32,11 +32,12 @@ pub fn item_places(
     let reached = scopes.reached.as_slice();
     let mut places = no_places();
     for i in 0..modules.len() {
-        if reached[i] {
-            let list = references[i].as_slice();
-            let more = module_places(alloc, &parts[i], &modules[i], list, tables, counts)?;
-            places = earliest_places(places, more);
+        if !reached[i] {
+            continue;
         }
+        let list = references[i].as_slice();
+        let more = module_places(alloc, &parts[i], &modules[i], list, tables, counts)?;
+        places = earliest_places(places, more);
     }
     Ok(places)
 }
