@@ -1,5 +1,5 @@
 -- The first places of the rules on items, over the modules that are reached.
-use Rattle.std.proofs.Common.{◌≡◌, ℕ, suc, ◌+◌, ◌<◌, ◌≤◌, Bool, true, false, List, [], ◌∷◌, ◌++◌, length, map, get_or, drop, Option, Some, None, refl, sym, ap, ◌∙◌, arith, add-one, drop-cons}
+use Rattle.std.proofs.Common.{◌≡◌, ℕ, zero, suc, ◌+◌, ◌<◌, ◌≤◌, Bool, true, false, List, [], ◌∷◌, ◌++◌, length, map, get_or, drop, Option, Some, None, refl, sym, ap, ◌∙◌, arith, add-one, drop-cons}
 use Rattle.std.specs.List.{flat_map, items_where_true}
 use Rattle.std.proofs.lemmas.List.{drop_all, get_or-map}
 use Rattle.v_tree.specs.declared.locations.Location.{Location}
@@ -54,14 +54,27 @@ first_at file scopes references tables counts i m scope list more lt m_at scope_
     ∙ ap (λ (ns : List ℕ). first_under (scope_under file.directives m) (record { of = of; tables = port_tables file.directives file.modules; counts = ns }) m) are_counts
 
 module _ (file : File) where
-  -- one more module
-  pub with_modules-step : (places : ItemPlaces) (reached : List Bool) (modules : List Module) (i : ℕ) (b : Bool) (m : Module) →
-      i < length reached → i < length modules → get_or reached i b ≡ b → get_or modules i m ≡ m →
-      with_modules file places (drop i reached) (drop i modules) ≡ with_modules file (with_module file places b m) (drop (i + 1) reached) (drop (i + 1) modules)
-  with_modules-step places reached modules i b m lt lt_modules b_at m_at =
+  -- one more module that is reached
+  pub with_modules-reached_one : (places : ItemPlaces) (reached : List Bool) (modules : List Module) (i : ℕ) (m : Module) →
+      i < length reached → i < length modules → get_or reached i false ≡ true → get_or modules i m ≡ m →
+      with_modules file places (drop i reached) (drop i modules) ≡ with_modules file (earliest_places places (first_in file m)) (drop (i + 1) reached) (drop (i + 1) modules)
+  with_modules-reached_one places reached modules i m lt lt_modules on m_at =
       ap (λ (ms : List Module). with_modules file places (drop i reached) ms) (drop-cons modules i m lt_modules ∙ ap (λ (x : Module). x ∷ drop (suc i) modules) m_at)
-      ∙ ap (λ (bs : List Bool). with_modules file places bs (m ∷ drop (suc i) modules)) (drop-cons reached i b lt ∙ ap (λ (x : Bool). x ∷ drop (suc i) reached) b_at)
-      ∙ ap (λ (n : ℕ). with_modules file (with_module file places b m) (drop n reached) (drop n modules)) (sym (add-one i))
+      ∙ ap (λ (bs : List Bool). with_modules file places bs (m ∷ drop (suc i) modules)) (drop-cons reached i false lt ∙ ap (λ (x : Bool). x ∷ drop (suc i) reached) on)
+      ∙ ap (λ (n : ℕ). with_modules file (earliest_places places (first_in file m)) (drop n reached) (drop n modules)) (sym (add-one i))
+
+  skip : (places : ItemPlaces) (reached : List Bool) (modules : List Module) (i : ℕ) → i < length reached → i < length modules → get_or reached i false ≡ false →
+      with_modules file places (drop i reached) (drop i modules) ≡ with_modules file places (drop (suc i) reached) (drop (suc i) modules)
+  skip places [] modules i lt lt_modules off = absurd (omega arith)
+  skip places (b ∷ bs) [] i lt lt_modules off = absurd (omega arith)
+  skip places (b ∷ bs) (m ∷ ms) zero lt lt_modules off = ap (λ (x : Bool). with_modules file (with_module file places x m) bs ms) off
+  skip places (b ∷ bs) (m ∷ ms) (suc i) lt lt_modules off = skip places bs ms i (omega arith) (omega arith) off
+
+  -- one more that isn't
+  pub with_modules-passed_one : (places : ItemPlaces) (reached : List Bool) (modules : List Module) (i : ℕ) → i < length reached → i < length modules → get_or reached i false ≡ false →
+      with_modules file places (drop i reached) (drop i modules) ≡ with_modules file places (drop (i + 1) reached) (drop (i + 1) modules)
+  with_modules-passed_one places reached modules i lt lt_modules off =
+      skip places reached modules i lt lt_modules off ∙ ap (λ (n : ℕ). with_modules file places (drop n reached) (drop n modules)) (sym (add-one i))
 
   -- the end of the walk
   pub with_modules-end : (places : ItemPlaces) (reached : List Bool) (modules : List Module) (i : ℕ) → length modules ≤ i →

@@ -36,7 +36,7 @@ middle_places file graph reached =
 -- all rules, given the graph, the top and the modules that it reaches
 abbrev pub places_with : File → Graph → Option ℕ → List Bool → List RulePlaces
 places_with file graph top reached =
-    early_places file graph top reached ++ (middle_places file graph reached ++ late_places file reached)
+    early_places file graph top reached ++ middle_places file graph reached ++ late_places file reached
 
 -- all rules, given the graph and the top
 abbrev pub places_from : File → Graph → Option ℕ → List RulePlaces
@@ -79,4 +79,4 @@ middle_rules r = rule_place law.Widths r.items.widths
 
 -- the broken rule with the lowest number
 abbrev pub broken_rule : Rules → Option BrokenRule
-broken_rule r = first_broken (early_rules r.scopes.places ++ (middle_rules r ++ late_rules r.scopes.places))
+broken_rule r = first_broken (early_rules r.scopes.places ++ middle_rules r ++ late_rules r.scopes.places)

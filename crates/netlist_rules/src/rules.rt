@@ -103,12 +103,9 @@ impl Rules {
         ensures { result ≡ broken_rule self.now }
     {
         let places = self.scopes.places();
-        if let Some(broken) = first_broken(&places.early_rules()) {
-            return Some(broken);
-        }
-        match first_broken(&self.middle_rules()) {
-            Some(broken) => Some(broken),
-            None => first_broken(&places.late_rules()),
-        }
+        let early = first_broken(&places.early_rules());
+        let middle = first_broken(&self.middle_rules());
+        let late = first_broken(&places.late_rules());
+        early.or(middle).or(late)
     }
 }
