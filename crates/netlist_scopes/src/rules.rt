@@ -6,7 +6,7 @@ ghost use Rattle.netlist_scopes.specs.Rules.{number_of, broken_of, first_broken}
 
 use v_tree::Location;
 
-/// A rule on netlists that speaks of modules, of their declarations, or of directives.
+/// A rule on netlists.
 #[derive(Clone, Copy, Debug, PartialEq, Eq)]
 pub enum NetlistRule {
     /// A module or a primitive has the name of an earlier one.
@@ -25,6 +25,23 @@ pub enum NetlistRule {
     UndeclaredNets,
     /// A select isn't a part of the range of its net.
     Selects,
+    /// A terminal or a connection hasn't the width of its place, or a literal without size stands in a
+    /// concatenation.
+    Widths,
+    /// A gate has a wrong number of terminals, or an instance a wrong number or form of connections.
+    Counts,
+    /// There are more delays than allowed.
+    Delays,
+    /// A drive isn't right.
+    Drives,
+    /// A connection is to no port, or to one that is connected already.
+    Connections,
+    /// A literal stands at an output or at a bidirectional terminal.
+    Literals,
+    /// The number of inputs or the rows of a primitive aren't right.
+    Tables,
+    /// The header of a primitive is wrong.
+    Headers,
     /// The direction and the net of a port have different ranges.
     Ranges,
     /// The precision of a time scale is greater than its unit.
@@ -61,6 +78,14 @@ impl NetlistRule {
             NetlistRule::RepeatedDeclarations => 6,
             NetlistRule::UndeclaredNets => 7,
             NetlistRule::Selects => 8,
+            NetlistRule::Widths => 9,
+            NetlistRule::Counts => 10,
+            NetlistRule::Delays => 11,
+            NetlistRule::Drives => 12,
+            NetlistRule::Connections => 13,
+            NetlistRule::Literals => 14,
+            NetlistRule::Tables => 16,
+            NetlistRule::Headers => 17,
             NetlistRule::Ranges => 18,
             NetlistRule::CoarsePrecisions => 19,
             NetlistRule::ImplicitNets => 20,

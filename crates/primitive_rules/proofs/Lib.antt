@@ -1,0 +1,5 @@
+pub mod Lists
+pub mod CountLaws
+pub mod Parts
+pub mod RefusalLaws
+pub mod WalkLaws
