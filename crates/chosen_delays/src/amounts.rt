@@ -1,6 +1,6 @@
 //! Amounts in ticks.
 ghost use Rattle.std.specs.Prelude.{◌≡◌, ◌<◌, ◌≤◌, ◌/◌, ◌%◌, ◌&&◌, IsTrue, if◌then◌else◌};
-ghost use Rattle.delay_rule.specs.Ticks.{AreDigits, delay_in_ticks, ticks_of};
+ghost use Rattle.delay_rule.specs.Ticks.{AreDigits, delay_in_ticks, number as number_of, ticks_of};
 ghost use Rattle.chosen_delays.specs.Amounts.{amount_ticks, are_digits, ten_digits};
 
 use crate::scale::DelayScale;
@@ -21,6 +21,7 @@ fn digit(number: u32, power: u32) -> u8
 fn ten_digits(number: u32) -> [u8; 10]
     ensures value { result ≡ ten_digits number }
     ensures digits { AreDigits result }
+    ensures same { number_of result ≡ number }
 {
     [
         digit(number, 1_000_000_000),

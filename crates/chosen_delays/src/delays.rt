@@ -1,15 +1,14 @@
 //! The delays of an item.
-ghost use Rattle.std.specs.Prelude.{◌≡◌, ◌<◌, ◌^◌, IfSome, Option, [], ◌∷◌, map, take};
+ghost use Rattle.std.specs.Prelude.{◌≡◌, ◌<◌, ◌^◌, [], ◌∷◌, map, take};
 ghost use Rattle.std.specs.Option.{option_map};
 ghost use Rattle.delay_rule.specs.Delay.{delay_list};
-ghost use Rattle.chosen_delays.specs.Amounts.{amount_ticks};
 ghost use Rattle.chosen_delays.specs.Chosen.{all_or_none, delays_of, value_ticks};
 
 use crate::amounts::amount_ticks;
 use crate::choice::Mtm;
 use crate::scale::DelayScale;
 use delay_rule::Delays;
-use v_tree::{Amount, Delay, DelaySpec, DelayValue};
+use v_tree::{Delay, DelaySpec, DelayValue};
 
 /// The amount that is chosen of a value in ticks, unless it is past the greatest delay.
 fn value_ticks(choice: Mtm, scale: DelayScale, value: &DelayValue) -> Option<u32>
