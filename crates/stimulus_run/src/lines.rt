@@ -1,10 +1,11 @@
 //! The lines of a stimulus, taken over tick by tick.
-ghost use Rattle.std.specs.Prelude.{◌≡◌, List, Option, length, AllPairs};
+ghost use Rattle.std.specs.Prelude.{◌≡◌, ◌&&◌, List, Option, length, nat_eq, AllPairs};
 ghost use Rattle.std.specs.Option.{option_map, option_or};
 ghost use Rattle.level_range.specs.declared.range.Logic.{Logic as AnyLogic};
 ghost use Rattle.flat_net.specs.Soundness.{AreDistinctNets};
 ghost use Rattle.plain_sim.specs.Lists.{AreForcedBy, AreUndrivenElsewhere};
 ghost use Rattle.vector_text.specs.Lawful.{HasWidth, MayFollow};
+ghost use Rattle.vector_text.specs.Written.{is_strobe};
 ghost use Rattle.stimulus_run.specs.Inputs.{values_of, listed_signals, strobe_at};
 ghost use Rattle.stimulus_run.specs.Lines.{AreBefore, AreUpTo, AreForcedByLines, HaveWidths, DoTimesRise};
 
@@ -50,13 +51,26 @@ pub(crate) fn take_lines(stimulus: &Stimulus, done: usize, tick: u64, forced: &m
     at
 }
 
+/// Whether a line reads the outputs.
+fn is_read(what: &StimulusWhat) -> bool
+    ensures { result ≡ is_strobe what.now }
+{
+    match what {
+        StimulusWhat::Values(_) => false,
+        StimulusWhat::Strobe | StimulusWhat::Expect(_) => true,
+    }
+}
+
+/// Whether a line reads the outputs at a tick.
+fn reads_at(line: &StimulusLine, tick: u64) -> bool
+    ensures { result ≡ nat_eq line.now.time tick && is_strobe line.now.what }
+{
+    line.time == tick && is_read(&line.what)
+}
+
 /// What the last of the first lines reads of the outputs at a tick, where these are the lines up to
 /// it.
-pub(crate) fn strobe_line(
-    lines: &[StimulusLine],
-    done: usize,
-    tick: u64,
-) -> Option<&StimulusWhat>
+pub(crate) fn strobe_line(lines: &[StimulusLine], done: usize, tick: u64) -> Option<&StimulusWhat>
     requires order { AllPairs (λ a b. MayFollow a.what a.time b.what b.time) lines.now }
     requires done { AreUpTo lines.now done tick }
     ensures { option_map (λ what. what.now) result ≡ strobe_at lines.now tick }
@@ -65,8 +79,9 @@ pub(crate) fn strobe_line(
         return None;
     }
     let line = &lines[done - 1];
-    match &line.what {
-        StimulusWhat::Values(_) => None,
-        what => if line.time == tick { Some(what) } else { None },
+    if reads_at(line, tick) {
+        Some(&line.what)
+    } else {
+        None
     }
 }
