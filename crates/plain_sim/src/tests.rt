@@ -27,11 +27,7 @@ fn signals(rt: &impl Abort, alloc: Global, bounds: &[(i8, i8)]) -> Result<Vec<Ra
 }
 
 /// Passes while more are needed: how the last one ends, and how many they are.
-fn passes<L: Ledger>(
-    run: &mut PlainRun<'_>,
-    limit: u32,
-    steps: &mut Steps<L>,
-) -> (PassEnd, u32)
+fn passes<L: Ledger>(run: &mut PlainRun<'_>, limit: u32, steps: &mut Steps<L>) -> (PassEnd, u32)
     ensures { run.new.netlist ≡ run.old.netlist }
 {
     for made in 0..limit {

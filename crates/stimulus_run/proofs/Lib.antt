@@ -5,3 +5,4 @@ pub mod Stepping
 pub mod Passing
 pub mod Lawful
 pub mod NextSteps
+pub mod Strobes

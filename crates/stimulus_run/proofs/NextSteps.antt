@@ -24,11 +24,11 @@ use Rattle.stimulus_run.specs.declared.step_end.StepEnd.TheVariants.{Ended, Osci
 use Rattle.stimulus_run.specs.Inputs.{schedule_of, inputs_at, listed_signals, last_values, values_at}
 use Rattle.stimulus_run.specs.Lines.{AreBefore, AreUpTo, AreForcedByLines, IsAhead}
 use Rattle.stimulus_run.specs.Progress.{Progress, machine_after, tick_after, after_end, after_oscillation, step_by, end_by, progress_after, step_end, rest_of, run_with}
-use Rattle.stimulus_run.specs.Ticks.{line_time, earlier_up_to}
+use Rattle.stimulus_run.specs.Ticks.{time_after, earlier_up_to}
 use Rattle.stimulus_run.proofs.Rest.{rest-step}
 use Rattle.stimulus_run.proofs.Filtering.{up_to-first}
 use Rattle.stimulus_run.proofs.Lawful.{times-rise}
-use Rattle.stimulus_run.proofs.NextTicks.{next-by_lines}
+use Rattle.stimulus_run.proofs.NextTicks.{next-by_lines, line-listed}
 use Rattle.stimulus_run.proofs.Stepping.{step_at-time, due-later}
 
 -- stands for a line where there is none
@@ -114,13 +114,13 @@ module _ (p : Progress) (tick : ℕ) (made : PlainMachine) (there : p.next ≡ S
 
   -- the next tick, by the lines that are done and the least due time
   pub next-is : (at : ℕ) (parts : Parts) → IsLawful parts p.stimulus → AreUpTo p.stimulus.lines at tick → is_machine_due made.machine ≡ false →
-      earlier_up_to p.stimulus.end (line_time p.stimulus.lines at) (least (due_times made.machine)) ≡ tick_after p tick made.machine
+      earlier_up_to p.stimulus.end (time_after p.stimulus.lines at tick p.stimulus.end) (least (due_times made.machine)) ≡ tick_after p tick made.machine
   next-is at parts lawful done quiet =
       let time : made.machine.time ≡ tick =
       ap (λ (m : Machine). m.time) machine-is
       ∙ step_at-time p.netlist p.limit tick (inputs_at p.netlist.parts p.stimulus tick) p.machine in
       sym (next-by_lines (schedule_of p.netlist.parts p.stimulus) p.stimulus.lines at tick (due_times made.machine) no_line refl done
-      (times-rise parts p.stimulus lawful) (due-later made.machine tick time quiet))
+      (times-rise parts p.stimulus lawful) lawful.within (due-later made.machine tick time quiet))
 
 pub run-after : (p q : Progress) (end : StepEnd) → end ≡ step_end p → q ≡ progress_after p → rest_of p ≡ run_with end q
 run-after p q end e f =
@@ -140,7 +140,7 @@ is-ahead p tick at m parts lawful done (Some t) e =
         early = λ k d lt. let le = done.early k d lt in let later = is.later in omega arith;
         late = λ k d ge within.
             let time : ℕ = (get_or lines k d).time in
-            let listed : Contains schedule.times time = (k, omega arith, get_or-map (λ (l : StimulusLine). l.time) lines k d time within) in
+            let listed : Contains schedule.times time = line-listed lines p.stimulus.end k d within in
             is.first time (Contains-append_left schedule.times (due_times m) time listed) (done.late k d ge within) (lawful.within k d within);
       },
       is.ended,

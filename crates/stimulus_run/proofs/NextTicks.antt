@@ -1,8 +1,8 @@
 -- The next tick of a run is the time of the first line that isn't done, or the least due time.
 use Rattle.std.proofs.Common.{◌≡◌, ◌⊎◌, ℕ, zero, suc, ◌+◌, ◌-◌, ◌<◌, ◌≤◌, min, List, [], ◌∷◌, ◌++◌, length, get_or, Option, Some, None, refl, ap, sym, ◌∙◌, subst, arith, inl, inr, length-append}
 use Rattle.std.specs.Prelude.{All, Contains, map, nat_le, slice_get}
-use Rattle.std.specs.Option.{option_map}
-use Rattle.std.proofs.lemmas.Bool.{cases_lt, le-leb, lt-leb}
+use Rattle.std.specs.Option.{option_map_or}
+use Rattle.std.proofs.lemmas.Bool.{cases_lt, le-leb, lt-leb, lt-ltb, le-ltb}
 use Rattle.std.proofs.lemmas.List.{get_or-map, length-map, get_or_append_left, get_or-append_right, get_or_default}
 use Rattle.std.proofs.lemmas.Option.{slice_get-get_or, slice_get_past}
 use Rattle.machine.specs.Run.{Schedule, lesser, least, next_tick, IsNextTick, IsLastTick}
@@ -10,7 +10,7 @@ use Rattle.machine.proofs.Ticks.{next_tick-is, next_tick-none}
 use Rattle.plain_sim.specs.Times.{earlier}
 use Rattle.vector_text.specs.declared.stimulus.StimulusLine.{StimulusLine}
 use Rattle.stimulus_run.specs.Lines.{AreUpTo, DoTimesRise}
-use Rattle.stimulus_run.specs.Ticks.{line_time, up_to, earlier_up_to}
+use Rattle.stimulus_run.specs.Ticks.{end_after, time_after, up_to, earlier_up_to}
 
 -- ---- the least number of a list
 
@@ -173,54 +173,127 @@ due-first due tick later = record {
 abbrev times_of : List StimulusLine → List ℕ
 times_of lines = map (λ (line : StimulusLine). line.time) lines
 
-lines-first : (lines : List StimulusLine) (at tick : ℕ) (d : StimulusLine) → AreUpTo lines at tick → DoTimesRise lines →
-    IsFirstLater (times_of lines) tick (line_time lines at)
-lines-first lines at tick d done rise = elim (cases_lt at (length lines)) [
-  | inl within ↦
-      let line = get_or lines at d in
-      let found : line_time lines at ≡ Some line.time = ap (option_map (λ (l : StimulusLine). l.time)) (slice_get-get_or lines at d within) in
+module _ (lines : List StimulusLine) (at tick end : ℕ) (d : StimulusLine) (done : AreUpTo lines at tick) (rise : DoTimesRise lines)
+    (within : All (λ (line : StimulusLine). line.time ≤ end) lines) where
+  abbrev times : List ℕ
+  times = times_of lines ++ end ∷ []
+
+  -- the place of a time in the lines
+  line-at : (t : ℕ) → Contains (times_of lines) t → (k : ℕ) × (k < length lines) × ((get_or lines k d).time ≡ t)
+  line-at t there =
+      let size = length-map lines (λ (l : StimulusLine). l.time) in
+      let inside : there.0 < length lines = (let w = there.1 in omega arith) in
+      (there.0, inside, sym (get_or-map (λ (l : StimulusLine). l.time) lines there.0 d t inside) ∙ there.2)
+
+  line-in : (k : ℕ) → k < length lines → Contains times (get_or lines k d).time
+  line-in k lt =
+      let size = length-map lines (λ (l : StimulusLine). l.time) in
+      in-left (times_of lines) (end ∷ []) (get_or lines k d).time
+      (k, omega arith, get_or-map (λ (l : StimulusLine). l.time) lines k d (get_or lines k d).time lt)
+
+  end-in : Contains times end
+  end-in = in-right (times_of lines) (end ∷ []) end (head-in end [])
+
+  end-is : (t : ℕ) → Contains (end ∷ []) t → end ≡ t
+  end-is t there = elim (uncons end t [] there) [
+    | inl e ↦ e
+    | inr later ↦ absurd (let lt = later.1 in omega arith)
+  ]
+
+  -- a later time of a line isn't done
+  late-at : (k t : ℕ) → k < length lines → (get_or lines k d).time ≡ t → tick < t → at ≤ k
+  late-at k t lt e later = elim (cases_lt k at) [
+    | inl early ↦ absurd (let le = done.early k d early in omega arith)
+    | inr late ↦ late
+  ]
+
+  by_line : at < length lines → IsFirstLater times tick (time_after lines at tick end)
+  by_line lt =
+      let line : StimulusLine = get_or lines at d in
+      let found : time_after lines at tick end ≡ Some line.time =
+      ap (λ (o : Option StimulusLine). option_map_or (λ (l : StimulusLine). Some l.time) o (end_after tick end)) (slice_get-get_or lines at d lt) in
       record {
         there = λ n e.
             let f : Some line.time ≡ Some n = sym found ∙ e in
             let same : line.time ≡ n = cc in
-            let size = length-map lines (λ (l : StimulusLine). l.time) in (
-              (at, omega arith, get_or-map (λ (l : StimulusLine). l.time) lines at d n within ∙ same),
-              (let late = done.late at d (omega arith) within in omega arith),
-            );
-        before = λ n t e there lt.
+            (subst (Contains times) same (line-in at lt), (let late = done.late at d (omega arith) lt in omega arith));
+        before = λ n t e there later.
             let f : Some line.time ≡ Some n = sym found ∙ e in
             let same : line.time ≡ n = cc in
-            let size = length-map lines (λ (l : StimulusLine). l.time) in
-            let inside : there.0 < length lines = (let w = there.1 in omega arith) in
-            let is : (get_or lines there.0 d).time ≡ t = sym (get_or-map (λ (l : StimulusLine). l.time) lines there.0 d t inside) ∙ there.2 in
-            elim (cases_lt there.0 at) [
-              | inl early ↦ absurd (let le = done.early there.0 d early in omega arith)
-              | inr late ↦ elim (cases_lt at there.0) [
-                | inl less ↦ let le = rise at there.0 d less inside in omega arith
-                | inr more ↦
-                    let equal : there.0 ≡ at = omega arith in
-                    let time = ap (λ (k : ℕ). (get_or lines k d).time) equal in omega arith
-              ]
+            elim (unappend (times_of lines) (end ∷ []) t there) [
+              | inl left ↦
+                  let place = line-at t left in
+                  let late = late-at place.0 t place.1 place.2 later in
+                  elim (cases_lt at place.0) [
+                    | inl less ↦ let le = rise at place.0 d less place.1 in let f = place.2 in omega arith
+                    | inr more ↦
+                        let equal : place.0 ≡ at = omega arith in
+                        let time = ap (λ (k : ℕ). (get_or lines k d).time) equal in let f = place.2 in omega arith
+                  ]
+              | inr right ↦ let le = within at d lt in let f = end-is t right in omega arith
             ];
-        none = λ t e there lt. absurd (let f : Some line.time ≡ None = sym found ∙ e in cc);
+        none = λ t e there later. absurd (let f : Some line.time ≡ None = sym found ∙ e in cc);
       }
-  | inr past ↦
-      let missing : line_time lines at ≡ None = ap (option_map (λ (l : StimulusLine). l.time)) (slice_get_past lines at past) in
-      record {
-        there = λ n e. absurd (let f : None ≡ Some n = sym missing ∙ e in cc);
-        before = λ n t e. absurd (let f : None ≡ Some n = sym missing ∙ e in cc);
-        none = λ t e there lt.
-            let size = length-map lines (λ (l : StimulusLine). l.time) in
-            let inside : there.0 < length lines = (let w = there.1 in omega arith) in
-            let is : (get_or lines there.0 d).time ≡ t = sym (get_or-map (λ (l : StimulusLine). l.time) lines there.0 d t inside) ∙ there.2 in
-            let le = done.early there.0 d (omega arith) in omega arith;
-      }
-]
+
+  -- all lines are done
+  done-all : length lines ≤ at → (t : ℕ) → Contains (times_of lines) t → tick < t → ⊥
+  done-all past t there later =
+      let place = line-at t there in
+      let late = late-at place.0 t place.1 place.2 later in
+      absurd (let lt = place.1 in omega arith)
+
+  by_end : length lines ≤ at → IsFirstLater times tick (end_after tick end)
+  by_end past = elim (cases_lt tick end) [
+    | inl less ↦
+        let found : end_after tick end ≡ Some end = rw (lt-ltb tick end less) refl in
+        record {
+          there = λ n e.
+              let f : Some end ≡ Some n = sym found ∙ e in
+              let same : end ≡ n = cc in (subst (Contains times) same end-in, omega arith);
+          before = λ n t e there later.
+              let f : Some end ≡ Some n = sym found ∙ e in
+              let same : end ≡ n = cc in
+              elim (unappend (times_of lines) (end ∷ []) t there) [
+                | inl left ↦ absurd (done-all past t left later)
+                | inr right ↦ let g = end-is t right in omega arith
+              ];
+          none = λ t e there later. absurd (let f : Some end ≡ None = sym found ∙ e in cc);
+        }
+    | inr more ↦
+        let missing : end_after tick end ≡ None = rw (le-ltb tick end more) refl in
+        record {
+          there = λ n e. absurd (let f : None ≡ Some n = sym missing ∙ e in cc);
+          before = λ n t e. absurd (let f : None ≡ Some n = sym missing ∙ e in cc);
+          none = λ t e there later. elim (unappend (times_of lines) (end ∷ []) t there) [
+            | inl left ↦ absurd (done-all past t left later)
+            | inr right ↦ absurd (let g = end-is t right in omega arith)
+          ];
+        }
+  ]
+
+  lines-first : IsFirstLater times tick (time_after lines at tick end)
+  lines-first = elim (cases_lt at (length lines)) [
+    | inl lt ↦ by_line lt
+    | inr past ↦
+        subst (IsFirstLater times tick)
+        (sym (ap (λ (o : Option StimulusLine). option_map_or (λ (l : StimulusLine). Some l.time) o (end_after tick end)) (slice_get_past lines at past)))
+        (by_end past)
+  ]
 
 pub next-by_lines : (schedule : Schedule) (lines : List StimulusLine) (at tick : ℕ) (due : List ℕ) (d : StimulusLine) →
-    schedule.times ≡ times_of lines → AreUpTo lines at tick → DoTimesRise lines → ((t : ℕ) → Contains due t → tick < t) →
-    next_tick schedule tick due ≡ earlier_up_to schedule.end (line_time lines at) (least due)
-next-by_lines schedule lines at tick due d same done rise later =
-    by_both schedule tick due (line_time lines at) (least due)
-    (subst (λ (l : List ℕ). IsFirstLater l tick (line_time lines at)) (sym same) (lines-first lines at tick d done rise))
-    (due-first due tick later) (line_time lines at) (least due) refl refl
+    schedule.times ≡ times_of lines ++ schedule.end ∷ [] → AreUpTo lines at tick → DoTimesRise lines →
+    All (λ (line : StimulusLine). line.time ≤ schedule.end) lines → ((t : ℕ) → Contains due t → tick < t) →
+    next_tick schedule tick due ≡ earlier_up_to schedule.end (time_after lines at tick schedule.end) (least due)
+next-by_lines schedule lines at tick due d same done rise within later =
+    by_both schedule tick due (time_after lines at tick schedule.end) (least due)
+    (subst (λ (l : List ℕ). IsFirstLater l tick (time_after lines at tick schedule.end)) (sym same)
+    (lines-first lines at tick schedule.end d done rise within))
+    (due-first due tick later) (time_after lines at tick schedule.end) (least due) refl refl
+
+-- a line's time is one of the times of the steps
+pub line-listed : (lines : List StimulusLine) (end k : ℕ) (d : StimulusLine) → k < length lines →
+    Contains (times_of lines ++ end ∷ []) (get_or lines k d).time
+line-listed lines end k d lt =
+    let size = length-map lines (λ (l : StimulusLine). l.time) in
+    in-left (times_of lines) (end ∷ []) (get_or lines k d).time
+    (k, omega arith, get_or-map (λ (l : StimulusLine). l.time) lines k d (get_or lines k d).time lt)

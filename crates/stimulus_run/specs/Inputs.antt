@@ -1,6 +1,6 @@
 -- What a stimulus does to a netlist, tick by tick: its inputs in force, its strobes, and when steps are made. That inputs
 -- are x before their first values is this project's own.
-use Rattle.std.specs.Prelude.{ℕ, ◌&&◌, List, [], ◌∷◌, length, map, filter, replicate, Option, Some, None, nat_eq, nat_le}
+use Rattle.std.specs.Prelude.{ℕ, ◌&&◌, List, [], ◌∷◌, ◌++◌, length, map, filter, replicate, Option, Some, None, nat_eq, nat_le}
 use Rattle.std.specs.Option.{option_map, option_or}
 use Rattle.std.specs.List.{find}
 use Rattle.level_range.specs.declared.range.Logic.{Logic}
@@ -44,10 +44,10 @@ abbrev pub inputs_at : Parts → Stimulus → ℕ → List Signal
 inputs_at parts stimulus tick =
     map (input_among stimulus.inputs (listed_signals (length stimulus.inputs) (values_at stimulus.lines tick))) parts.inputs
 
--- steps are made at the times of the lines, up to and with the end
+-- steps are made at the times of the lines and at the end
 abbrev pub schedule_of : Parts → Stimulus → Schedule
 schedule_of parts stimulus = record {
-  times = map (λ (line : StimulusLine). line.time) stimulus.lines;
+  times = map (λ (line : StimulusLine). line.time) stimulus.lines ++ stimulus.end ∷ [];
   inputs_at = inputs_at parts stimulus;
   end = stimulus.end;
 }

@@ -10,3 +10,6 @@ mod ticks;
 
 pub use run::StimulusRun;
 pub use step_end::StepEnd;
+
+#[cfg(test)]
+mod tests;

@@ -1,16 +1,17 @@
 //! The lines of a stimulus, taken over tick by tick.
-ghost use Rattle.std.specs.Prelude.{List, Option, length};
-ghost use Rattle.std.specs.Option.{option_or};
+ghost use Rattle.std.specs.Prelude.{◌≡◌, ◌&&◌, List, Option, length, nat_eq, AllPairs};
+ghost use Rattle.std.specs.Option.{option_map, option_or};
 ghost use Rattle.level_range.specs.declared.range.Logic.{Logic as AnyLogic};
 ghost use Rattle.flat_net.specs.Soundness.{AreDistinctNets};
 ghost use Rattle.plain_sim.specs.Lists.{AreForcedBy, AreUndrivenElsewhere};
-ghost use Rattle.vector_text.specs.Lawful.{HasWidth};
-ghost use Rattle.stimulus_run.specs.Inputs.{values_of, listed_signals};
+ghost use Rattle.vector_text.specs.Lawful.{HasWidth, MayFollow};
+ghost use Rattle.vector_text.specs.Written.{is_strobe};
+ghost use Rattle.stimulus_run.specs.Inputs.{values_of, listed_signals, strobe_at};
 ghost use Rattle.stimulus_run.specs.Lines.{AreBefore, AreUpTo, AreForcedByLines, HaveWidths, DoTimesRise};
 
 use crate::inputs::drive_inputs;
 use level_range::Range;
-use vector_text::{Stimulus, StimulusWhat};
+use vector_text::{Stimulus, StimulusLine, StimulusWhat};
 
 /// Takes over what a line does: its values come into force, or those before it stay.
 fn take_line(nets: &[u32], what: &StimulusWhat, outputs: usize, forced: &mut [Range])
@@ -48,4 +49,39 @@ pub(crate) fn take_lines(stimulus: &Stimulus, done: usize, tick: u64, forced: &m
         at += 1;
     }
     at
+}
+
+/// Whether a line reads the outputs.
+fn is_read(what: &StimulusWhat) -> bool
+    ensures { result ≡ is_strobe what.now }
+{
+    match what {
+        StimulusWhat::Values(_) => false,
+        StimulusWhat::Strobe | StimulusWhat::Expect(_) => true,
+    }
+}
+
+/// Whether a line reads the outputs at a tick.
+fn reads_at(line: &StimulusLine, tick: u64) -> bool
+    ensures { result ≡ nat_eq line.now.time tick && is_strobe line.now.what }
+{
+    line.time == tick && is_read(&line.what)
+}
+
+/// What the last of the first lines reads of the outputs at a tick, where these are the lines up to
+/// it.
+pub(crate) fn strobe_line(lines: &[StimulusLine], done: usize, tick: u64) -> Option<&StimulusWhat>
+    requires order { AllPairs (λ a b. MayFollow a.what a.time b.what b.time) lines.now }
+    requires done { AreUpTo lines.now done tick }
+    ensures { option_map (λ what. what.now) result ≡ strobe_at lines.now tick }
+{
+    if done == 0 {
+        return None;
+    }
+    let line = &lines[done - 1];
+    if reads_at(line, tick) {
+        Some(&line.what)
+    } else {
+        None
+    }
 }

@@ -1,9 +1,10 @@
 ghost use Rattle.std.specs.Prelude.{◌≡◌, ◌<◌, ◌≤◌, IfOk, length};
+ghost use Rattle.std.specs.Option.{option_map};
 ghost use Rattle.vector_text.specs.Lawful.{IsLawful};
 ghost use Rattle.machine.specs.Run.{netlist_run};
 
 use crate::inputs::{drive_inputs, gather_inputs, undriven_signals, unknown_values};
-use crate::lines::take_lines;
+use crate::lines::{strobe_line, take_lines};
 use crate::step_end::StepEnd;
 use crate::steps::step;
 use crate::ticks::next_tick;
@@ -103,7 +104,7 @@ impl<'a> StimulusRun<'a> {
         let lines = self.stimulus.lines.as_slice();
         let due = self.run.next_time();
         self.ended = Some(tick);
-        self.next = next_tick(lines, self.line, due, self.stimulus.end);
+        self.next = next_tick(lines, self.line, tick, due, self.stimulus.end);
         StepEnd::Ended(tick)
     }
 
@@ -113,5 +114,14 @@ impl<'a> StimulusRun<'a> {
         ensures { result ≡ seen_signal self.now net }
     {
         self.run.seen(net)
+    }
+
+    /// What is read of the outputs after the step that ended last: a strobe, or a comparison with
+    /// expected values, where a line of the stimulus stands at its tick.
+    pub fn strobe(&self) -> Option<&StimulusWhat>
+        ensures { option_map (λ what. what.now) result ≡ strobe_of self.now }
+    {
+        let tick = self.ended?;
+        strobe_line(self.stimulus.lines.as_slice(), self.line, tick)
     }
 }

@@ -1,30 +1,33 @@
 //! The next tick of a run.
 ghost use Rattle.std.specs.Prelude.{◌≡◌, ◌≤◌, length};
-ghost use Rattle.stimulus_run.specs.Ticks.{line_time as line_time_of, earlier_up_to};
+ghost use Rattle.stimulus_run.specs.Ticks.{time_after as time_after_of, earlier_up_to};
 
 use vector_text::StimulusLine;
 
-/// The time of the first line that isn't done, if there is one.
-fn line_time(lines: &[StimulusLine], at: usize) -> Option<u64>
-    ensures { result ≡ line_time_of lines.now at }
+/// The first time of the lines that aren't done, and of the end, that is later than a tick.
+fn time_after(lines: &[StimulusLine], at: usize, tick: u64, end: u64) -> Option<u64>
+    ensures { result ≡ time_after_of lines.now at tick end }
 {
     if at < lines.len() {
         Some(lines[at].time)
+    } else if tick < end {
+        Some(end)
     } else {
         None
     }
 }
 
-/// The lesser of the times, where that is no later than the end.
+/// The lesser of that time and of the least due time, where it is no later than the end.
 pub(crate) fn next_tick(
     lines: &[StimulusLine],
     at: usize,
+    tick: u64,
     due: Option<u64>,
     end: u64,
 ) -> Option<u64>
-    ensures { result ≡ earlier_up_to end (line_time_of lines.now at) due }
+    ensures { result ≡ earlier_up_to end (time_after_of lines.now at tick end) due }
 {
-    let first = match (line_time(lines, at), due) {
+    let first = match (time_after(lines, at, tick, end), due) {
         (Some(time), Some(due)) => time.min(due),
         (Some(time), None) => time,
         (None, Some(due)) => due,

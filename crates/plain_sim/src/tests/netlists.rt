@@ -9,7 +9,7 @@ use net_settle::{KindList, LevelList, LinkList, Shape};
 use std::alloc::{AllocError, Global};
 use std::process::Abort;
 use std::test::Fail;
-use udp_table::{RowList, SymList, Sym, Udp, UdpRow, build};
+use udp_table::{RowList, Sym, SymList, Udp, UdpRow, build};
 
 fn numbers(alloc: Global, nets: &[u32]) -> Result<NetList, AllocError> {
     Ok(NetList::from_vec(Vec::from_slice(alloc, nets)?))

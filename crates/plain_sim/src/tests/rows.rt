@@ -55,8 +55,11 @@ const WIRE: NetRow = NetRow {
 };
 
 const Z: (i8, i8) = (0, 0);
+
 const STX: (i8, i8) = (-6, 6);
+
 const ST0: (i8, i8) = (-6, -6);
+
 const ST1: (i8, i8) = (6, 6);
 
 /// A large trireg that a switch drives, and whose charge decays in 50 ticks.

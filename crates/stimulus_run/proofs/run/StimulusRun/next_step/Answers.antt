@@ -8,7 +8,7 @@ use Rattle.stimulus_run.specs.declared.step_end.StepEnd.TheVariants.{Ended, Osci
 use Rattle.stimulus_run.specs.Lines.{AreForcedByLines}
 use Rattle.stimulus_run.specs.Inside.{progress_of}
 use Rattle.stimulus_run.specs.Progress.{Progress, tick_after, progress_after, step_end, rest_of}
-use Rattle.stimulus_run.specs.Ticks.{line_time, earlier_up_to}
+use Rattle.stimulus_run.specs.Ticks.{time_after, earlier_up_to}
 use Rattle.stimulus_run.proofs.Lawful.{lawful-nets, times-rise}
 use Rattle.stimulus_run.proofs.NextSteps.{step-from, oscillated-progress, oscillated-end, ended-progress, ended-end, next-is, run-after, is-ahead}
 use Rattle.stimulus_run.proofs.run.StimulusRun.next_step.Goals as goal
@@ -103,8 +103,8 @@ invariant_of-self-2 g c =
     let next = c.next_tick-self-inside.result in
     let e : next ≡ tick_after p tick made.machine =
     c.next_tick-self-inside.ensures
-    ∙ ap (λ (l : List StimulusLine). earlier_up_to s.end (line_time l at) c.next_time-due.result) c.as_slice-lines.ensures
-    ∙ ap (earlier_up_to s.end (line_time s.lines at)) c.next_time-due.ensures
+    ∙ ap (λ (l : List StimulusLine). earlier_up_to s.end (time_after l at tick s.end) c.next_time-due.result) c.as_slice-lines.ensures
+    ∙ ap (earlier_up_to s.end (time_after s.lines at tick s.end)) c.next_time-due.ensures
     ∙ next-is p tick made c.in-Some.is is at r.flat.now.parts c.self.invariant.lawful done quiet in
     let limit = ap (λ (q : PlainMachine). q.limit) is in
     let some = c.self.invariant.some in
@@ -143,8 +143,8 @@ returns-clause-progress g c =
     let next = c.next_tick-self-inside.result in
     let e : next ≡ tick_after p tick made.machine =
     c.next_tick-self-inside.ensures
-    ∙ ap (λ (l : List StimulusLine). earlier_up_to s.end (line_time l at) c.next_time-due.result) c.as_slice-lines.ensures
-    ∙ ap (earlier_up_to s.end (line_time s.lines at)) c.next_time-due.ensures
+    ∙ ap (λ (l : List StimulusLine). earlier_up_to s.end (time_after l at tick s.end) c.next_time-due.result) c.as_slice-lines.ensures
+    ∙ ap (earlier_up_to s.end (time_after s.lines at tick s.end)) c.next_time-due.ensures
     ∙ next-is p tick made c.in-Some.is is at r.flat.now.parts c.self.invariant.lawful done quiet in
     ended-progress p tick made c.in-Some.is is next quiet e ∙ ap progress_after c.self.view_is
 
@@ -189,8 +189,8 @@ returns-clause-run g c =
     let next = c.next_tick-self-inside.result in
     let e : next ≡ tick_after p tick made.machine =
     c.next_tick-self-inside.ensures
-    ∙ ap (λ (l : List StimulusLine). earlier_up_to s.end (line_time l at) c.next_time-due.result) c.as_slice-lines.ensures
-    ∙ ap (earlier_up_to s.end (line_time s.lines at)) c.next_time-due.ensures
+    ∙ ap (λ (l : List StimulusLine). earlier_up_to s.end (time_after l at tick s.end) c.next_time-due.result) c.as_slice-lines.ensures
+    ∙ ap (earlier_up_to s.end (time_after s.lines at tick s.end)) c.next_time-due.ensures
     ∙ next-is p tick made c.in-Some.is is at r.flat.now.parts c.self.invariant.lawful done quiet in
     ap rest_of (sym c.self.view_is)
     ∙ run-after p _ (Ended tick) (ended-end p tick made c.in-Some.is is quiet) (ended-progress p tick made c.in-Some.is is next quiet e)
