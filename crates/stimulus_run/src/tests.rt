@@ -32,24 +32,48 @@ struct StepRow {
     is_read: bool,
 }
 
-const fn step(tick: u64, seen: (i8, i8), is_read: bool) -> StepRow {
-    StepRow {
-        tick,
-        seen,
-        is_read,
-    }
-}
-
 /// The fall at 12 removes the rise that is due at 15, and the second input at 16 keeps the time 19.
 static STEPS: [StepRow; 8] = [
-    step(0, (-6, 6), false),
-    step(3, (-6, -6), false),
-    step(10, (-6, -6), false),
-    step(12, (-6, -6), false),
-    step(14, (-6, -6), false),
-    step(16, (-6, -6), false),
-    step(19, (6, 6), true),
-    step(25, (6, 6), false),
+    StepRow {
+        tick: 0,
+        seen: (-6, 6),
+        is_read: false,
+    },
+    StepRow {
+        tick: 3,
+        seen: (-6, -6),
+        is_read: false,
+    },
+    StepRow {
+        tick: 10,
+        seen: (-6, -6),
+        is_read: false,
+    },
+    StepRow {
+        tick: 12,
+        seen: (-6, -6),
+        is_read: false,
+    },
+    StepRow {
+        tick: 14,
+        seen: (-6, -6),
+        is_read: false,
+    },
+    StepRow {
+        tick: 16,
+        seen: (-6, -6),
+        is_read: false,
+    },
+    StepRow {
+        tick: 19,
+        seen: (6, 6),
+        is_read: true,
+    },
+    StepRow {
+        tick: 25,
+        seen: (6, 6),
+        is_read: false,
+    },
 ];
 
 fn step_rows() -> &'static [StepRow] {
