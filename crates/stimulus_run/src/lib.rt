@@ -10,6 +10,3 @@ mod ticks;
 
 pub use run::StimulusRun;
 pub use step_end::StepEnd;
-
-#[cfg(test)]
-mod tests;
