@@ -9,6 +9,3 @@ mod times;
 mod views;
 
 pub use run::PlainRun;
-
-#[cfg(test)]
-mod tests;
