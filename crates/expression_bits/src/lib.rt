@@ -11,6 +11,3 @@ pub use places::place_runs;
 pub use runs::{BitRun, RunList};
 pub use values::{ValueRuns, value_runs};
 pub use widths::run_width;
-
-#[cfg(test)]
-mod tests;
