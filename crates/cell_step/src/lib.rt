@@ -29,6 +29,3 @@ pub use starts::start_element;
 pub use states::{CellState, ElementState, IslandState, NetState, PassEnd, Timer};
 pub use steps::Steps;
 pub use view::View;
-
-#[cfg(test)]
-mod tests;

@@ -21,6 +21,3 @@ pub use parts::{
     NetPart, NetPartList, Parts, UdpList,
 };
 pub use soundness::sound;
-
-#[cfg(test)]
-mod tests;

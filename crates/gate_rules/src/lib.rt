@@ -12,6 +12,3 @@ mod widths;
 
 pub use classes::{GateClass, gate_class};
 pub use places::{GatePlaces, gate_places};
-
-#[cfg(test)]
-mod tests;

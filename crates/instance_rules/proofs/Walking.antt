@@ -14,7 +14,7 @@ use Rattle.module_scope.specs.declared.scopes.Scope.{Scope}
 use Rattle.module_graph.specs.declared.references.Master.{Master}
 use Rattle.module_graph.specs.declared.references.Reference.{Reference}
 use Rattle.module_graph.specs.Graph.{reference_of, reference_to, references_in}
-use Rattle.instance_rules.specs.declared.places.InstancePlaces.{InstancePlaces}
+use Rattle.instance_rules.specs.declared.places.ItemPlaces.{ItemPlaces}
 use Rattle.instance_rules.specs.Items.{InstanceRule, item_places}
 use Rattle.instance_rules.specs.Items.InstanceRule.{Widths, Counts, Delays, Drives, Connections, Literals}
 use Rattle.instance_rules.specs.Links.{ports_of}
@@ -41,12 +41,12 @@ reference_of-instance of (item.Cell c) = refl
 reference_of-instance of (item.Specify s) = refl
 
 -- the references that are left are those of the items that are left, and the places are those so far and those of these
-pub record Walked (scope : Scope) (masters : Masters) (references : List Reference) (items : List Item) (next index : ℕ) (places : InstancePlaces) : Type 0 where
+pub record Walked (scope : Scope) (masters : Masters) (references : List Reference) (items : List Item) (next index : ℕ) (places : ItemPlaces) : Type 0 where
   pub rest : drop next references ≡ references_in masters.of (drop index items)
   pub seen : (rule : InstanceRule) → first_place (places_in rule scope masters items) ≡ earliest (place_of rule places) (first_place (places_in rule scope masters (drop index items)))
 
 module _ (scope : Scope) (masters : Masters) (references : List Reference) (items : List Item) where
-  pub Walked-start : (places : InstancePlaces) → places ≡ no_places → references ≡ references_in masters.of items → Walked scope masters references items 0 0 places
+  pub Walked-start : (places : ItemPlaces) → places ≡ no_places → references ≡ references_in masters.of items → Walked scope masters references items 0 0 places
   Walked-start places none same = record {
     rest = same;
     seen = λ rule.
@@ -54,7 +54,7 @@ module _ (scope : Scope) (masters : Masters) (references : List Reference) (item
         (ap (place_of rule) none ∙ place_of-none rule));
   }
 
-  module _ (next index : ℕ) (places : InstancePlaces) (walked : Walked scope masters references items next index places) where
+  module _ (next index : ℕ) (places : ItemPlaces) (walked : Walked scope masters references items next index places) where
     pub Walked-end : length items ≤ index → AreFirst (λ rule. places_in rule scope masters items) places
     Walked-end le rule =
         walked.seen rule
@@ -90,7 +90,7 @@ module _ (scope : Scope) (masters : Masters) (references : List Reference) (item
         seen = λ rule. walked.seen rule ∙ ap (λ (ls : List Location). earliest (place_of rule places) (first_place ls)) (left_places rule None none);
       }
 
-      pub Walked-instance : (i : Instance) (more : InstancePlaces) → instance_of x ≡ Some i →
+      pub Walked-instance : (i : Instance) (more : ItemPlaces) → instance_of x ≡ Some i →
           AreFirst (λ rule. item_places rule scope (ports_of masters.tables masters.counts (master_at references next)) i) more →
           Walked scope masters references items (next + 1) (index + 1) (earliest_places places more)
       Walked-instance i more some first =
@@ -121,8 +121,8 @@ instance_of-none (item.Cell c) isnt = refl
 instance_of-none (item.Specify s) isnt = refl
 
 -- the same at other numbers
-pub Walked-same : (scope : Scope) (masters : Masters) (references : List Reference) (items : List Item) (next next2 index : ℕ) (places places2 : InstancePlaces) →
+pub Walked-same : (scope : Scope) (masters : Masters) (references : List Reference) (items : List Item) (next next2 index : ℕ) (places places2 : ItemPlaces) →
     next2 ≡ next → places2 ≡ places → Walked scope masters references items next index places → Walked scope masters references items next2 index places2
 Walked-same scope masters references items next next2 index places places2 same_next same_places walked =
     subst (λ (n : ℕ). Walked scope masters references items n index places2) (sym same_next)
-    (subst (λ (p : InstancePlaces). Walked scope masters references items next index p) (sym same_places) walked)
+    (subst (λ (p : ItemPlaces). Walked scope masters references items next index p) (sym same_places) walked)

@@ -10,7 +10,7 @@ use Rattle.rule_places.specs.Places.{first_place}
 use Rattle.module_scope.specs.declared.scopes.Scope.{Scope}
 use Rattle.module_graph.specs.declared.references.Master.{Master}
 use Rattle.module_ports.specs.Ports.{Port}
-use Rattle.instance_rules.specs.declared.places.InstancePlaces.{InstancePlaces}
+use Rattle.instance_rules.specs.declared.places.ItemPlaces.{ItemPlaces}
 use Rattle.instance_rules.specs.Links.{ports_of}
 use Rattle.instance_rules.specs.Items.{InstanceRule, item_places}
 use Rattle.instance_rules.specs.Items.InstanceRule.{Widths, Counts, Delays, Drives, Connections, Literals}
@@ -49,7 +49,7 @@ abbrev pub breaking_places : InstanceRule → Scope → Masters → Module → L
 breaking_places rule scope masters m = places_in rule scope masters m.items
 
 -- the first place of each rule, where it is broken
-abbrev pub instance_places : Scope → Masters → Module → InstancePlaces
+abbrev pub instance_places : Scope → Masters → Module → ItemPlaces
 instance_places scope masters m = record {
   widths = first_place (breaking_places Widths scope masters m);
   counts = first_place (breaking_places Counts scope masters m);

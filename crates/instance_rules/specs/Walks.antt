@@ -8,18 +8,18 @@ use Rattle.module_scope.specs.declared.scopes.Scope.{Scope}
 use Rattle.module_graph.specs.declared.references.Master.{Master}
 use Rattle.module_graph.specs.declared.references.Master.TheVariants.{Unknown}
 use Rattle.module_graph.specs.declared.references.Reference.{Reference}
-use Rattle.instance_rules.specs.declared.places.InstancePlaces.{InstancePlaces}
+use Rattle.instance_rules.specs.declared.places.ItemPlaces.{ItemPlaces}
 use Rattle.instance_rules.specs.Links.{MasterPorts, Link}
 use Rattle.instance_rules.specs.Items.{InstanceRule}
 use Rattle.instance_rules.specs.Items.InstanceRule.{Widths, Counts, Delays, Drives, Connections, Literals}
 use Rattle.instance_rules.specs.Rules.{inst_connections, inst_counts, inst_literals, inst_widths, link_literals, link_widths}
 
 -- no rule is broken
-abbrev pub no_places : InstancePlaces
+abbrev pub no_places : ItemPlaces
 no_places = record { widths = None; counts = None; delays = None; drives = None; connections = None; literals = None }
 
 -- for each rule the earlier of two places that may be there
-abbrev pub earliest_places : InstancePlaces → InstancePlaces → InstancePlaces
+abbrev pub earliest_places : ItemPlaces → ItemPlaces → ItemPlaces
 earliest_places a b = record {
   widths = earliest a.widths b.widths;
   counts = earliest a.counts b.counts;
@@ -30,7 +30,7 @@ earliest_places a b = record {
 }
 
 -- the place of a rule
-abbrev pub place_of : InstanceRule → InstancePlaces → Option Location
+abbrev pub place_of : InstanceRule → ItemPlaces → Option Location
 place_of Widths p = p.widths
 place_of Counts p = p.counts
 place_of Delays p = p.delays
@@ -61,7 +61,7 @@ abbrev pub links_places : InstanceRule → Scope → MasterPorts → List Link �
 links_places rule scope ports links = flat_map (link_places rule scope ports) links
 
 -- each place is the first of a rule's places
-abbrev pub AreFirst : (InstanceRule → List Location) → InstancePlaces → Type 0
+abbrev pub AreFirst : (InstanceRule → List Location) → ItemPlaces → Type 0
 AreFirst places p = (rule : InstanceRule) → first_place (places rule) ≡ place_of rule p
 
 abbrev pub master_in : Option Reference → Master

@@ -10,7 +10,7 @@ ghost use Rattle.instance_rules.specs.Walks.{AreFirst, inst_places};
 
 use crate::connections::{connection_place, count_place};
 use crate::links::links_places;
-use crate::places::{InstancePlaces, earliest_places, no_places};
+use crate::places::{ItemPlaces, earliest_places, no_places};
 use item_parts::{delay_place, drive_place};
 use module_graph::Master;
 use module_ports::PortTable;
@@ -26,13 +26,13 @@ fn inst_places(
     counts: &[usize],
     master: Master,
     inst: &Inst,
-) -> Result<InstancePlaces, AllocError>
+) -> Result<ItemPlaces, AllocError>
     ensures { IfOk result (λ places. AreFirst
         (λ rule. inst_places rule scope.now (ports_of tables.now counts.now master) inst.now)
         places) }
 {
     let connections = connection_place(alloc, tables, master, inst)?;
-    Ok(InstancePlaces {
+    Ok(ItemPlaces {
         counts: count_place(counts, master, inst),
         connections,
         ..links_places(scope, tables, master, &inst.connections)
@@ -47,7 +47,7 @@ fn insts_places(
     counts: &[usize],
     master: Master,
     instances: &[Inst],
-) -> Result<InstancePlaces, AllocError>
+) -> Result<ItemPlaces, AllocError>
     ensures { IfOk result (λ places. AreFirst
         (λ rule. flat_map (inst_places rule scope.now (ports_of tables.now counts.now master))
         instances.now)
@@ -92,14 +92,14 @@ pub fn item_places(
     counts: &[usize],
     master: Master,
     item: &Instance,
-) -> Result<InstancePlaces, AllocError>
+) -> Result<ItemPlaces, AllocError>
     ensures { IfOk result (λ places. AreFirst
         (λ rule. item_places rule scope.now (ports_of tables.now counts.now master) item.now)
         places) }
 {
     let instances = item.instances.as_slice();
     let places = insts_places(alloc, scope, tables, counts, master, instances)?;
-    Ok(InstancePlaces {
+    Ok(ItemPlaces {
         delays: item_delay(master, item),
         drives: drive_place(item.drive),
         ..places

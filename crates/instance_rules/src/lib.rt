@@ -10,7 +10,4 @@ mod places;
 mod ports;
 
 pub use modules::instance_places;
-pub use places::InstancePlaces;
-
-#[cfg(test)]
-mod tests;
+pub use places::{ItemPlaces, earliest_places, no_places};

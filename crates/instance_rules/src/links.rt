@@ -7,7 +7,7 @@ ghost use Rattle.rule_places.specs.Places.{first_place};
 ghost use Rattle.instance_rules.specs.Links.{links, named_link, ordered_link, ports_of};
 ghost use Rattle.instance_rules.specs.Walks.{AreFirst, link_places, links_places};
 
-use crate::places::{InstancePlaces, earliest_places, no_places};
+use crate::places::{ItemPlaces, earliest_places, no_places};
 use crate::ports::{is_output_at, named_port, width_at};
 use item_parts::{has_literal, location_of, width_place};
 use module_graph::Master;
@@ -34,7 +34,7 @@ fn link_places(
     port: Option<usize>,
     place: Location,
     expr: &Expr,
-) -> InstancePlaces
+) -> ItemPlaces
     ensures { (counts : List ℕ) → AreFirst
         (λ rule. link_places rule scope.now (ports_of tables.now counts master)
         (record { port = port; place = place; value = expr.now }))
@@ -42,7 +42,7 @@ fn link_places(
 {
     let width = width_at(tables, master, port);
     let is_output = is_output_at(tables, master, port);
-    InstancePlaces {
+    ItemPlaces {
         widths: width_place(scope, width, place, expr),
         literals: literal_place(is_output, place, expr),
         ..no_places()
@@ -56,7 +56,7 @@ fn value_places(
     master: Master,
     index: usize,
     value: &Option<Expr>,
-) -> InstancePlaces
+) -> ItemPlaces
     ensures { (counts : List ℕ) → AreFirst
         (λ rule. links_places rule scope.now (ports_of tables.now counts master)
         (ordered_link (index, value.now)))
@@ -75,7 +75,7 @@ fn connection_places(
     master: Master,
     index: usize,
     connection: &Connection,
-) -> InstancePlaces
+) -> ItemPlaces
     ensures { (counts : List ℕ) → AreFirst
         (λ rule. links_places rule scope.now (ports_of tables.now counts master)
         (named_link (ports_of tables.now counts master) (index, connection.now)))
@@ -96,7 +96,7 @@ fn values_places(
     tables: &[PortTable],
     master: Master,
     values: &[Option<Expr>],
-) -> InstancePlaces
+) -> ItemPlaces
     ensures { (counts : List ℕ) → AreFirst
         (λ rule. links_places rule scope.now (ports_of tables.now counts master)
         (flat_map ordered_link (enumerate_from 0 values.now)))
@@ -116,7 +116,7 @@ fn connections_places(
     tables: &[PortTable],
     master: Master,
     connections: &[Connection],
-) -> InstancePlaces
+) -> ItemPlaces
     ensures { (counts : List ℕ) → AreFirst
         (λ rule. links_places rule scope.now (ports_of tables.now counts master)
         (flat_map (named_link (ports_of tables.now counts master))
@@ -137,7 +137,7 @@ pub fn links_places(
     tables: &[PortTable],
     master: Master,
     connections: &Connections,
-) -> InstancePlaces
+) -> ItemPlaces
     ensures { (counts : List ℕ) → AreFirst
         (λ rule. links_places rule scope.now (ports_of tables.now counts master)
         (links (ports_of tables.now counts master) connections.now))

@@ -6,7 +6,7 @@ ghost use Rattle.instance_rules.specs.Places.{instance_places, places_in};
 ghost use Rattle.instance_rules.specs.Walks.{AreFirst, master_at};
 
 use crate::items::item_places;
-use crate::places::{InstancePlaces, earliest_places, no_places};
+use crate::places::{ItemPlaces, earliest_places, no_places};
 use module_graph::{Master, Reference};
 use module_ports::PortTable;
 use module_scope::Scope;
@@ -31,7 +31,7 @@ fn items_places(
     counts: &[usize],
     references: &[Reference],
     items: &[Item],
-) -> Result<InstancePlaces, AllocError>
+) -> Result<ItemPlaces, AllocError>
     ensures { IfOk result (λ places. (of : List ℕ → MasterValue) →
         references.now ≡ references_in of items.now → AreFirst
         (λ rule. places_in rule scope.now
@@ -61,7 +61,7 @@ pub fn instance_places(
     references: &[Reference],
     tables: &[PortTable],
     counts: &[usize],
-) -> Result<InstancePlaces, AllocError>
+) -> Result<ItemPlaces, AllocError>
     ensures { IfOk result (λ places. (of : List ℕ → MasterValue) →
         references.now ≡ references_in of «module».now.items → places ≡ instance_places scope.now
         (record { of = of; tables = tables.now; counts = counts.now }) «module».now) }

@@ -2,13 +2,11 @@
 ghost use Rattle.std.specs.Prelude.{◌≡◌, ℕ, List, [], length, option_and_then, slice_get, slice_index_or};
 ghost use Rattle.std.specs.Option.{option_map};
 ghost use Rattle.module_ports.specs.Ports.{Port, index_in};
-ghost use Rattle.item_parts.specs.Widths.{net_range, range_width};
 ghost use Rattle.instance_rules.specs.Links.{is_driving, is_output_at, named_port, net_direction, port_width, ports_of, width_at};
 
-use item_parts::range_width;
+use item_parts::net_width;
 use module_graph::Master;
 use module_ports::PortTable;
-use module_scope::ScopeNet;
 use v_tree::Direction;
 
 /// How many ports the module of an index has.
@@ -40,16 +38,6 @@ pub fn named_port(tables: &[PortTable], master: Master, index: usize, name: &[u8
         Master::Module(module) => port_index(tables, module, name),
         Master::Udp(_) => Some(index),
         Master::Unknown => None,
-    }
-}
-
-/// The width of a port's net.
-fn net_width(net: Option<ScopeNet>) -> u64
-    ensures { result ≡ range_width (net_range net) }
-{
-    match net {
-        Some(net) => range_width(net.range),
-        None => 1,
     }
 }
 

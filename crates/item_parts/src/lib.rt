@@ -12,7 +12,7 @@ pub use delays::{delay_count, delay_place};
 pub use drives::{drive_place, is_drive, is_pull, pull_level, pull_place};
 pub use literals::{has_literal, location_of, unsized_in_concatenation};
 pub use misfits::width_place;
-pub use widths::{expr_width, pick_width, range_width, select_width};
+pub use widths::{expr_width, name_width, net_width, pick_width, range_width, select_width};
 
 #[cfg(test)]
 mod tests;

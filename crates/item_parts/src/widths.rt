@@ -1,7 +1,8 @@
 //! The widths of nets, selects and expressions.
 ghost use Rattle.std.specs.Prelude.{◌≡◌, ◌≤◌, ◌+◌, ◌^◌, min};
 ghost use Rattle.std.specs.Option.{option_map};
-ghost use Rattle.item_parts.specs.Widths.{bounds_width, range_width, select_width, net_range, pick_width, expr_width};
+ghost use Rattle.item_parts.specs.Widths.{bounds_width, range_width, select_width, net_range, pick_width, expr_width, width_in};
+ghost use Rattle.module_scope.specs.Scopes.{scope_net};
 
 use module_scope::{Scope, ScopeNet};
 use v_tree::{Expr, Pick, RangeBounds, Select};
@@ -44,14 +45,29 @@ fn net_range(net: Option<ScopeNet>) -> Option<RangeBounds>
     }
 }
 
-/// The width of a net or of bits of it, at most 2^32 bits. A name without a net counts as a scalar.
+/// The width of a net by its range: one bit for a scalar and where there is no net.
+pub fn net_width(net: Option<ScopeNet>) -> u64
+    ensures { result ≡ range_width (net_range net) }
+{
+    range_width(net_range(net))
+}
+
+/// The width of the net of a name or of bits of it, at most 2^32 bits. A name without a net counts as
+/// a scalar.
+pub fn name_width(scope: &Scope, name: &[u8], select: Option<Select>) -> u64
+    ensures { result ≡ width_in (net_range (scope_net scope.now name.now)) select }
+{
+    match select {
+        Some(select) => select_width(select),
+        None => net_width(scope.net_of(name)),
+    }
+}
+
+/// The width of a pick, at most 2^32 bits. A name without a net counts as a scalar.
 pub fn pick_width(scope: &Scope, pick: &Pick) -> u64
     ensures { result ≡ pick_width scope.now pick.now }
 {
-    match pick.select {
-        Some(select) => select_width(select),
-        None => range_width(net_range(scope.net_of(pick.name.text.as_slice()))),
-    }
+    name_width(scope, pick.name.text.as_slice(), pick.select)
 }
 
 /// The size of a literal, where it has one.

@@ -18,6 +18,3 @@ pub use graph::ModuleGraph;
 pub use reach::ReachedList;
 pub use references::{Master, Reference, ReferenceList, ReferenceLists};
 pub use repeated::repeated_name;
-
-#[cfg(test)]
-mod tests;

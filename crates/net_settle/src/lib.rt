@@ -12,6 +12,3 @@ mod spread;
 pub use island::settle;
 pub use scratch::Scratch;
 pub use shape::{KindList, LevelList, Link, LinkList, Shape};
-
-#[cfg(test)]
-mod tests;

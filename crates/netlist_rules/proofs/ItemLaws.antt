@@ -17,9 +17,10 @@ use Rattle.instance_rules.specs.Items.{InstanceRule}
 use Rattle.instance_rules.specs.Items.InstanceRule.{Widths, Counts, Delays, Drives, Connections, Literals}
 use Rattle.instance_rules.specs.Places.{Masters, breaking_places, instance_places}
 use Rattle.netlist_scopes.specs.Reached.{scope_under}
-use Rattle.netlist_rules.specs.declared.items.ItemPlaces.{ItemPlaces}
+use Rattle.instance_rules.specs.declared.places.ItemPlaces.{ItemPlaces}
 use Rattle.netlist_rules.specs.Items.{item_places, masters_of, module_places, port_counts, port_tables}
-use Rattle.netlist_rules.specs.Walks.{earliest_places, first_in, first_under, joined_places, no_places, with_module, with_modules}
+use Rattle.instance_rules.specs.Walks.{earliest_places, no_places}
+use Rattle.netlist_rules.specs.Walks.{first_in, first_under, joined_places, with_module, with_modules}
 
 -- the places of gates and those of instances are those of a module
 pub joined_first : (scope : Scope) (masters : Masters) (m : Module) → joined_places (gate_places scope m) (instance_places scope masters m) ≡ first_under scope masters m

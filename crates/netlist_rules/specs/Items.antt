@@ -16,7 +16,7 @@ use Rattle.instance_rules.specs.Items.{InstanceRule}
 use Rattle.instance_rules.specs.Items.InstanceRule.{Widths, Counts, Delays, Drives, Connections, Literals}
 use Rattle.instance_rules.specs.Places.{Masters, breaking_places}
 use Rattle.netlist_scopes.specs.Reached.{scope_under}
-use Rattle.netlist_rules.specs.declared.items.ItemPlaces.{ItemPlaces}
+use Rattle.instance_rules.specs.declared.places.ItemPlaces.{ItemPlaces}
 
 -- the ports of each module under the directives before it
 abbrev pub port_tables : List Directive → List Module → List (List Port)

@@ -1,19 +1,19 @@
 -- For the code alone: the first places so far, and those of one more module.
-use Rattle.std.specs.Prelude.{Bool, List, [], ◌∷◌, None, if◌then◌else◌}
+use Rattle.std.specs.Prelude.{Bool, List, [], ◌∷◌, if◌then◌else◌}
 use Rattle.v_tree.specs.declared.modules.Module.{Module}
 use Rattle.v_tree.specs.declared.modules.File.{File}
 use Rattle.rule_places.specs.Places.{earliest, first_place}
 use Rattle.module_scope.specs.declared.scopes.Scope.{Scope}
 use Rattle.gate_rules.specs.declared.places.GatePlaces.{GatePlaces}
-use Rattle.instance_rules.specs.declared.places.InstancePlaces.{InstancePlaces}
+use Rattle.instance_rules.specs.declared.places.ItemPlaces.{ItemPlaces}
 use Rattle.instance_rules.specs.Items.InstanceRule.{Widths, Counts, Delays, Drives, Connections, Literals}
 use Rattle.instance_rules.specs.Places.{Masters}
+use Rattle.instance_rules.specs.Walks.{earliest_places}
 use Rattle.netlist_scopes.specs.Reached.{scope_under}
-use Rattle.netlist_rules.specs.declared.items.ItemPlaces.{ItemPlaces}
 use Rattle.netlist_rules.specs.Items.{masters_of, places_under}
 
 -- for each rule the earlier of a place of gates and one of instances
-abbrev pub joined_places : GatePlaces → InstancePlaces → ItemPlaces
+abbrev pub joined_places : GatePlaces → ItemPlaces → ItemPlaces
 joined_places gates instances = record {
   widths = earliest gates.widths instances.widths;
   counts = earliest gates.counts instances.counts;
@@ -38,22 +38,7 @@ first_under scope masters m = record {
 abbrev pub first_in : File → Module → ItemPlaces
 first_in file m = first_under (scope_under file.directives m) (masters_of file) m
 
--- no rule is broken
-abbrev pub no_places : ItemPlaces
-no_places = record { widths = None; counts = None; delays = None; drives = None; connections = None; literals = None }
-
--- for each rule the earlier of two places that may be there
-abbrev pub earliest_places : ItemPlaces → ItemPlaces → ItemPlaces
-earliest_places a b = record {
-  widths = earliest a.widths b.widths;
-  counts = earliest a.counts b.counts;
-  delays = earliest a.delays b.delays;
-  drives = earliest a.drives b.drives;
-  connections = earliest a.connections b.connections;
-  literals = earliest a.literals b.literals;
-}
-
--- the same with those in a module, where it is reached
+-- places so far with those in a module, where it is reached
 abbrev pub with_module : File → ItemPlaces → Bool → Module → ItemPlaces
 with_module file places is_reached m = if is_reached then earliest_places places (first_in file m) else places
 

@@ -7,9 +7,5 @@ mod reached;
 mod rules;
 mod tables;
 
-pub use items::ItemPlaces;
 pub use rules::Rules;
 pub use tables::PortTableList;
-
-#[cfg(test)]
-mod tests;

@@ -3,9 +3,11 @@ ghost use Rattle.std.specs.Prelude.{◌≡◌, length, map, IfOk};
 ghost use Rattle.module_graph.specs.Graph.{graph_of};
 ghost use Rattle.netlist_scopes.specs.Reached.{scope_under};
 ghost use Rattle.netlist_rules.specs.Items.{item_places, port_counts, port_tables};
-ghost use Rattle.netlist_rules.specs.Walks.{no_places, with_modules};
+ghost use Rattle.instance_rules.specs.Walks.{no_places};
+ghost use Rattle.netlist_rules.specs.Walks.{with_modules};
 
-use crate::items::{ItemPlaces, earliest_places, module_places, no_places};
+use crate::items::module_places;
+use instance_rules::{ItemPlaces, earliest_places, no_places};
 use module_ports::PortTable;
 use netlist_scopes::Scopes;
 use std::alloc::{AllocError, Global};

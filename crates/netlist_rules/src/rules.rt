@@ -7,9 +7,9 @@ ghost use Rattle.netlist_scopes.specs.Rules.{first_broken};
 ghost use Rattle.netlist_rules.specs.Rules.{IsAnswer, all_rules, broken_rule, middle_rules, rules_of, rules_with, udps_reached};
 ghost use Rattle.primitive_rules.specs.Places.{primitive_places};
 
-use crate::items::ItemPlaces;
 use crate::reached::item_places;
 use crate::tables::{PortTableList, port_counts, port_tables};
+use instance_rules::ItemPlaces;
 use netlist_scopes::{BrokenRule, NetlistRule, RulePlace, Scopes, first_broken};
 use primitive_rules::PrimitivePlaces;
 use std::alloc::{AllocError, Global};

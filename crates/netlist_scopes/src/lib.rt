@@ -10,6 +10,3 @@ mod scopes;
 pub use places::NetlistPlaces;
 pub use rules::{BrokenRule, NetlistRule, RulePlace, first_broken};
 pub use scopes::{ScopeList, Scopes};
-
-#[cfg(test)]
-mod tests;

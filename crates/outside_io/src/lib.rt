@@ -7,8 +7,6 @@ mod lists;
 mod memory_shelf;
 mod memory_sink;
 mod outside;
-#[cfg(test)]
-mod tests;
 mod whole;
 
 pub use edge::{FileShelf, OpenGate, StreamSink};

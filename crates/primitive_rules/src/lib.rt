@@ -16,6 +16,3 @@ pub use arguments::{UdpArguments, arguments_of};
 pub use building::udp_of;
 pub use places::PrimitivePlaces;
 pub use ports::port_count;
-
-#[cfg(test)]
-mod tests;

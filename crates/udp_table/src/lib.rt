@@ -18,6 +18,3 @@ pub use rows::{RowList, SymList, UdpRow};
 pub use symbols::{Base, Sym};
 pub use tables::{SymTable, edge_table, value_table};
 pub use udp::Udp;
-
-#[cfg(test)]
-mod tests;

@@ -10,8 +10,6 @@ mod literals;
 mod numbers;
 mod pieces;
 mod quoted;
-#[cfg(test)]
-mod tests;
 mod token;
 mod values;
 mod words;

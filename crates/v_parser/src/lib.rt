@@ -15,8 +15,6 @@ mod modules;
 mod parsing;
 mod primitives;
 mod rows;
-#[cfg(test)]
-mod tests;
 mod words;
 
 pub use fault::ParseFault;

@@ -20,6 +20,3 @@ pub use fault::{BindFault, VecFault};
 pub use reading::read_vectors;
 pub use stimulus::{LogicList, Stimulus, StimulusLine, StimulusLineList, StimulusWhat, WantedList};
 pub use vectors::{VectorLine, VectorLineList, Vectors};
-
-#[cfg(test)]
-mod tests;

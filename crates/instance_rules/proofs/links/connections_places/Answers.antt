@@ -1,7 +1,7 @@
 use Rattle.std.proofs.Common.{ℕ, ◌+◌, sym, subst}
 use Rattle.std.specs.List.{enumerate_from, flat_map}
 use Rattle.v_tree.specs.declared.gates.Connection.{Connection}
-use Rattle.instance_rules.specs.declared.places.InstancePlaces.{InstancePlaces}
+use Rattle.instance_rules.specs.declared.places.ItemPlaces.{ItemPlaces}
 use Rattle.instance_rules.specs.Items.{InstanceRule}
 use Rattle.instance_rules.specs.Links.{named_link, ports_of}
 use Rattle.instance_rules.specs.Walks.{link_places, links_places}
@@ -25,6 +25,6 @@ loop-index-preserved c = λ counts.
     let all = c.args.connections.now in
     let places = λ (rule : InstanceRule) (connection : ℕ × Connection). links_places rule scope ports ((named_link ports) connection) in
     let whole = λ (rule : InstanceRule). links_places rule scope ports (flat_map (named_link ports) (enumerate_from 0 all)) in
-    subst (λ (p : InstancePlaces). IsSeenFrom places all whole (c.loop-index.index + 1) p) (sym c.earliest_places-places.ensures)
+    subst (λ (p : ItemPlaces). IsSeenFrom places all whole (c.loop-index.index + 1) p) (sym c.earliest_places-places.ensures)
     (IsSeenFrom-step places all whole c.loop-index.index c.loop-index.places (c.loop-index.invariant counts)
     c.index-connections-index.result c.connection_places-more.result c.loop-index-test.true (sym c.index-connections-index.is) (c.connection_places-more.ensures counts))

@@ -1,7 +1,7 @@
 use Rattle.std.proofs.Common.{ℕ, ◌+◌, Option, sym, subst}
 use Rattle.std.specs.List.{enumerate_from, flat_map}
 use Rattle.v_tree.specs.declared.expressions.Expr.{Expr}
-use Rattle.instance_rules.specs.declared.places.InstancePlaces.{InstancePlaces}
+use Rattle.instance_rules.specs.declared.places.ItemPlaces.{ItemPlaces}
 use Rattle.instance_rules.specs.Items.{InstanceRule}
 use Rattle.instance_rules.specs.Links.{ordered_link, ports_of}
 use Rattle.instance_rules.specs.Walks.{link_places, links_places}
@@ -25,6 +25,6 @@ loop-index-preserved c = λ counts.
     let all = c.args.values.now in
     let places = λ (rule : InstanceRule) (value : ℕ × Option Expr). links_places rule scope ports (ordered_link value) in
     let whole = λ (rule : InstanceRule). links_places rule scope ports (flat_map ordered_link (enumerate_from 0 all)) in
-    subst (λ (p : InstancePlaces). IsSeenFrom places all whole (c.loop-index.index + 1) p) (sym c.earliest_places-places.ensures)
+    subst (λ (p : ItemPlaces). IsSeenFrom places all whole (c.loop-index.index + 1) p) (sym c.earliest_places-places.ensures)
     (IsSeenFrom-step places all whole c.loop-index.index c.loop-index.places (c.loop-index.invariant counts)
     c.index-values-index.result c.value_places-more.result c.loop-index-test.true (sym c.index-values-index.is) (c.value_places-more.ensures counts))

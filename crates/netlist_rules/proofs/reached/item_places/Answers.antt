@@ -1,8 +1,9 @@
 use Rattle.std.proofs.Common.{◌≡◌, ℕ, ◌+◌, ◌<◌, Bool, true, false, List, length, get_or, drop, ap, sym, ◌∙◌, arith}
 use Rattle.v_tree.specs.declared.modules.Module.{Module}
 use Rattle.module_graph.specs.Graph.{Graph}
-use Rattle.netlist_rules.specs.declared.items.ItemPlaces.{ItemPlaces}
-use Rattle.netlist_rules.specs.Walks.{earliest_places, first_in, no_places, with_modules}
+use Rattle.instance_rules.specs.declared.places.ItemPlaces.{ItemPlaces}
+use Rattle.instance_rules.specs.Walks.{earliest_places, no_places}
+use Rattle.netlist_rules.specs.Walks.{first_in, with_modules}
 use Rattle.netlist_rules.proofs.ItemLaws.{first_at, with_modules-reached_one, with_modules-passed_one, with_modules-end, with_modules-reached}
 use Rattle.netlist_rules.proofs.reached.item_places.Goals as goal
 

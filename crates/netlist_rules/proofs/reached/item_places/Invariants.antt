@@ -1,5 +1,6 @@
 use Rattle.std.proofs.Common.{◌≡◌, drop}
-use Rattle.netlist_rules.specs.Walks.{no_places, with_modules}
+use Rattle.instance_rules.specs.Walks.{no_places}
+use Rattle.netlist_rules.specs.Walks.{with_modules}
 use Rattle.netlist_rules.proofs.reached.item_places.Given as goal
 
 abbrev pub invariant-loop-i : goal.invariant-loop-i

@@ -1,0 +1,5 @@
+//! The tests of `cell_step`.
+#![tactic(auto)]
+
+#[cfg(test)]
+mod tests;

@@ -1,0 +1,5 @@
+//! The tests of `flat_net`.
+#![tactic(auto)]
+
+#[cfg(test)]
+mod tests;

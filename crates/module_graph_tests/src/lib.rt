@@ -1,0 +1,5 @@
+//! The tests of `module_graph`.
+#![tactic(auto)]
+
+#[cfg(test)]
+mod tests;

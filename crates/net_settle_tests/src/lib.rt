@@ -1,0 +1,5 @@
+//! The tests of `net_settle`.
+#![tactic(auto)]
+
+#[cfg(test)]
+mod tests;

@@ -1,0 +1,5 @@
+//! The tests of `outside_io`.
+#![tactic(auto)]
+
+#[cfg(test)]
+mod tests;

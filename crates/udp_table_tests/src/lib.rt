@@ -1,0 +1,5 @@
+//! The tests of `udp_table`.
+#![tactic(auto)]
+
+#[cfg(test)]
+mod tests;

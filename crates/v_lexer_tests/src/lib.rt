@@ -1,0 +1,5 @@
+//! The tests of `v_lexer`.
+#![tactic(auto)]
+
+#[cfg(test)]
+mod tests;
