@@ -2,10 +2,12 @@ mod buffers;
 mod flaws;
 mod sample;
 
-use flat_net::{Cell, Drive, Element, ElementKind, Find, Flat, Island, NetPart, Parts, Patch, sound};
 use buffers::many_buffers;
 use byte_lists::{Bytes, NameList, NetList};
 use delay_rule::Delays;
+use flat_net::{
+    Cell, Drive, Element, ElementKind, Find, Flat, Island, NetPart, Parts, Patch, sound,
+};
 use flaws::{Change, flaws};
 use level_range::Logic;
 use list_of::ListOf;

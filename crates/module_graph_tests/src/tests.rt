@@ -1,5 +1,5 @@
-use module_graph::*;
 use byte_lists::{Bytes, NameList};
+use module_graph::*;
 use sqlite_items::Items;
 use std::alloc::{AllocError, Global};
 use std::test::Fail;

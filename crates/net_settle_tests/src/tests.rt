@@ -3,8 +3,8 @@ ghost use Rattle.net_settle.specs.Conditions.{EndsWithin, IsChargeLevel};
 
 mod search;
 
-use net_settle::{KindList, LevelList, Link, LinkList, Scratch, Shape, settle};
 use level_range::{Conduct, Kind, Range, percent_v};
+use net_settle::{KindList, LevelList, Link, LinkList, Scratch, Shape, settle};
 use search::settled_bounds;
 use std::alloc::{AllocError, Global};
 use std::process::Abort;

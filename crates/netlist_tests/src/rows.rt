@@ -21,7 +21,7 @@ pub struct NetlistRow {
 }
 
 /// The choice of the top in bytes.
-pub fn choice(row: &NetlistRow) -> Option<&'static [u8]> {
+pub(crate) fn choice(row: &NetlistRow) -> Option<&'static [u8]> {
     match row.top {
         Some(name) => Some(name.as_bytes()),
         None => None,
@@ -29,7 +29,7 @@ pub fn choice(row: &NetlistRow) -> Option<&'static [u8]> {
 }
 
 /// The tree of a text.
-pub fn file_of(alloc: Global, text: &[u8]) -> Result<File, Fail> {
+pub(crate) fn file_of(alloc: Global, text: &[u8]) -> Result<File, Fail> {
     if text.len() > 67108864 {
         return Err(Fail::new("a text of more than 64 MiB"));
     }

@@ -1,5 +1,5 @@
-use outside_io::*;
 use byte_lists::Bytes;
+use outside_io::*;
 use std::alloc::{AllocError, Global};
 use std::process::Abort;
 use std::test::Fail;

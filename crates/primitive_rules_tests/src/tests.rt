@@ -6,8 +6,8 @@ mod rows_states;
 mod rows_tables;
 mod rows_values;
 
-use primitive_rules::*;
 use level_range::Logic;
+use primitive_rules::*;
 use std::alloc::Global;
 use std::process::Abort;
 use std::test::Fail;

@@ -1,8 +1,8 @@
-use udp_table::{Base, RowList, Sym, SymList, Udp, UdpFault, UdpRow, after_changes, build, level};
 use level_range::Logic;
 use std::alloc::{AllocError, Global};
 use std::process::Abort;
 use std::test::Fail;
+use udp_table::{Base, RowList, Sym, SymList, Udp, UdpFault, UdpRow, after_changes, build, level};
 
 const EDGES: [Sym; 6] = [
     Sym::Rise,

@@ -2,12 +2,12 @@ ghost use Rattle.std.specs.Prelude.{◌≤◌, length};
 
 mod show;
 
-use v_parser::*;
 use show::show_answer;
 use std::alloc::{AllocError, Global};
 use std::fmt::Write;
 use std::test::Fail;
 use v_lexer::tokens;
+use v_parser::*;
 
 // A row is a text and its tree, or the refused token. In a tree a number before a colon is that of
 // the first token of a module, an item or an instance's parentheses.

@@ -3,9 +3,6 @@ mod first_rows;
 mod netlist;
 mod second_rows;
 
-use vector_text::{
-    BindFault, LogicList, Stimulus, StimulusWhat, VecFault, Vectors, WantedList, bind, read_vectors,
-};
 use bound_rows::bound_rows;
 use byte_lists::{NameList, NetList};
 use flat_net::Flat;
@@ -14,6 +11,9 @@ use netlist::{small_netlist, wide_netlist};
 use std::alloc::{AllocError, Global};
 use std::process::Abort;
 use std::test::Fail;
+use vector_text::{
+    BindFault, LogicList, Stimulus, StimulusWhat, VecFault, Vectors, WantedList, bind, read_vectors,
+};
 
 /// A text, and what reading or binding it gives, as `shown` and `bound_shown` write it.
 pub struct Row {

@@ -395,6 +395,6 @@ static GATES: [Case; 29] = [
     },
 ];
 
-pub fn gates() -> &'static [Case] {
+pub(crate) fn gates() -> &'static [Case] {
     &GATES
 }

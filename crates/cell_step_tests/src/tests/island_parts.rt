@@ -131,7 +131,11 @@ fn islands(alloc: Global, case: &IslandCase, nets: u8) -> Result<ListOf<Island>,
 }
 
 /// A netlist of the island alone, of three nets at most.
-pub fn island_parts(rt: &impl Abort, alloc: Global, case: &IslandCase) -> Result<Parts, Fail> {
+pub(crate) fn island_parts(
+    rt: &impl Abort,
+    alloc: Global,
+    case: &IslandCase,
+) -> Result<Parts, Fail> {
     assert!(rt; case.nets.len() <= 3 && case.links.len() <= 3);
     let nets = case.nets.len() as u8;
     Ok(Parts {

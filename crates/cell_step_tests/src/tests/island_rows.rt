@@ -549,6 +549,6 @@ static ISLANDS: [IslandCase; 12] = [
     },
 ];
 
-pub fn islands() -> &'static [IslandCase] {
+pub(crate) fn islands() -> &'static [IslandCase] {
     &ISLANDS
 }

@@ -348,6 +348,6 @@ static TABLES: [Table; 4] = [
     },
 ];
 
-pub fn tables() -> &'static [Table] {
+pub(crate) fn tables() -> &'static [Table] {
     &TABLES
 }

@@ -41,7 +41,7 @@ fn first_nets(model: &Model) -> (u16, u16)
 }
 
 /// The numbers of so many nets from the first on.
-pub fn numbers(alloc: Global, first: u16, count: u8) -> Result<NetList, AllocError> {
+pub(crate) fn numbers(alloc: Global, first: u16, count: u8) -> Result<NetList, AllocError> {
     let mut nets = Vec::new(alloc);
     for k in 0..count {
         nets.push(u32::from(first) + u32::from(k))?;
@@ -142,7 +142,7 @@ fn udps(rt: &impl Abort, alloc: Global) -> Result<ListOf<Udp>, Fail> {
 }
 
 /// Names of one letter.
-pub fn names(alloc: Global, count: usize) -> Result<NameList, AllocError> {
+pub(crate) fn names(alloc: Global, count: usize) -> Result<NameList, AllocError> {
     let mut names = Vec::new(alloc);
     for letter in (b'a'..=b'z').take(count) {
         names.push(Bytes::from_vec(vec![in alloc; letter]?))?;
@@ -181,7 +181,7 @@ fn islands(alloc: Global, model: &Model) -> Result<ListOf<Island>, AllocError> {
 }
 
 /// A netlist of the element alone.
-pub fn parts_of(rt: &impl Abort, alloc: Global, model: &Model) -> Result<Parts, Fail> {
+pub(crate) fn parts_of(rt: &impl Abort, alloc: Global, model: &Model) -> Result<Parts, Fail> {
     let nets = nets(alloc, model)?;
     let net_names = names(alloc, nets.as_slice().len())?;
     Ok(Parts {

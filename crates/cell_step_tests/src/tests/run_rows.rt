@@ -256,6 +256,6 @@ static RUNS: [Case; 8] = [
     },
 ];
 
-pub fn runs() -> &'static [Case] {
+pub(crate) fn runs() -> &'static [Case] {
     &RUNS
 }

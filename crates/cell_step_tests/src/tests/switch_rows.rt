@@ -450,6 +450,6 @@ static SWITCHES: [Case; 34] = [
     },
 ];
 
-pub fn switches() -> &'static [Case] {
+pub(crate) fn switches() -> &'static [Case] {
     &SWITCHES
 }

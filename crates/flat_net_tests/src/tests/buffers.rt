@@ -1,7 +1,7 @@
 //! A netlist of many nets, each alone and driven by a buffer from the one before it.
 use super::{NO_DELAYS, bytes, numbers};
-use flat_net::{Drive, Element, ElementKind, Find, Island, NetKind, NetPart, Parts};
 use byte_lists::{Bytes, NameList};
+use flat_net::{Drive, Element, ElementKind, Find, Island, NetKind, NetPart, Parts};
 use level_range::Kind;
 use list_of::ListOf;
 use logic_tables::FoldKind;
@@ -97,7 +97,7 @@ fn finds(alloc: Global, count: u32) -> Result<ListOf<Find>, AllocError> {
 }
 
 /// So many nets, elements, islands and names; the first net is the input, the last the output.
-pub fn many_buffers(alloc: Global, count: u32) -> Result<Parts, AllocError> {
+pub(crate) fn many_buffers(alloc: Global, count: u32) -> Result<Parts, AllocError> {
     Ok(Parts {
         nets: ListOf::from_vec((0..count).map(wire).collect(alloc)?),
         elements: elements(alloc, count)?,

@@ -461,6 +461,6 @@ static FLAWS: [Flaw; 37] = [
     },
 ];
 
-pub fn flaws() -> &'static [Flaw] {
+pub(crate) fn flaws() -> &'static [Flaw] {
     &FLAWS
 }

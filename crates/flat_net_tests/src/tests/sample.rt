@@ -217,26 +217,26 @@ static FINDS: [FindRow; 7] = [
     },
 ];
 
-pub fn net_rows() -> &'static [NetRow] {
+pub(crate) fn net_rows() -> &'static [NetRow] {
     &NETS
 }
 
-pub fn element_rows() -> &'static [ElementRow] {
+pub(crate) fn element_rows() -> &'static [ElementRow] {
     &ELEMENTS
 }
 
-pub fn island_rows() -> &'static [IslandRow] {
+pub(crate) fn island_rows() -> &'static [IslandRow] {
     &ISLANDS
 }
 
-pub fn find_rows() -> &'static [FindRow] {
+pub(crate) fn find_rows() -> &'static [FindRow] {
     &FINDS
 }
 
-pub fn net_names() -> &'static [&'static str] {
+pub(crate) fn net_names() -> &'static [&'static str] {
     &NET_NAMES
 }
 
-pub fn element_names() -> &'static [&'static str] {
+pub(crate) fn element_names() -> &'static [&'static str] {
     &ELEMENT_NAMES
 }

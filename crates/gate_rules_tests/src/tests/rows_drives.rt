@@ -136,6 +136,6 @@ static ROWS: [PlaceRow; 26] = [
     },
 ];
 
-pub fn rows() -> &'static [PlaceRow] {
+pub(crate) fn rows() -> &'static [PlaceRow] {
     &ROWS
 }

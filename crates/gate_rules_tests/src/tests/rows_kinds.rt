@@ -216,6 +216,6 @@ static ROWS: [PlaceRow; 42] = [
     },
 ];
 
-pub fn rows() -> &'static [PlaceRow] {
+pub(crate) fn rows() -> &'static [PlaceRow] {
     &ROWS
 }

@@ -151,6 +151,6 @@ static ROWS: [PlaceRow; 29] = [
     },
 ];
 
-pub fn rows() -> &'static [PlaceRow] {
+pub(crate) fn rows() -> &'static [PlaceRow] {
     &ROWS
 }

@@ -181,6 +181,6 @@ static ROWS: [PlaceRow; 35] = [
     },
 ];
 
-pub fn rows() -> &'static [PlaceRow] {
+pub(crate) fn rows() -> &'static [PlaceRow] {
     &ROWS
 }

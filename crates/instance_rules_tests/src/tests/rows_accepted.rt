@@ -101,6 +101,6 @@ static ROWS: [InstanceRow; 19] = [
     },
 ];
 
-pub fn rows() -> &'static [InstanceRow] {
+pub(crate) fn rows() -> &'static [InstanceRow] {
     &ROWS
 }

@@ -91,6 +91,6 @@ static ROWS: [InstanceRow; 17] = [
     },
 ];
 
-pub fn rows() -> &'static [InstanceRow] {
+pub(crate) fn rows() -> &'static [InstanceRow] {
     &ROWS
 }

@@ -76,6 +76,6 @@ static ROWS: [InstanceRow; 14] = [
     },
 ];
 
-pub fn rows() -> &'static [InstanceRow] {
+pub(crate) fn rows() -> &'static [InstanceRow] {
     &ROWS
 }

@@ -66,6 +66,6 @@ static ROWS: [InstanceRow; 12] = [
     },
 ];
 
-pub fn rows() -> &'static [InstanceRow] {
+pub(crate) fn rows() -> &'static [InstanceRow] {
     &ROWS
 }

@@ -106,6 +106,6 @@ static ROWS: [InstanceRow; 20] = [
     },
 ];
 
-pub fn rows() -> &'static [InstanceRow] {
+pub(crate) fn rows() -> &'static [InstanceRow] {
     &ROWS
 }

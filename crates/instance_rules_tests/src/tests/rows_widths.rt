@@ -161,6 +161,6 @@ static ROWS: [InstanceRow; 31] = [
     },
 ];
 
-pub fn rows() -> &'static [InstanceRow] {
+pub(crate) fn rows() -> &'static [InstanceRow] {
     &ROWS
 }

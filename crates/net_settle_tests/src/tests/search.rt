@@ -1,6 +1,6 @@
 //! A slow reading of the definition: of all lists of bounds of three nets, those that are settled.
-use net_settle::Link;
 use level_range::Conduct;
+use net_settle::Link;
 
 /// A level behind a switch.
 fn weakened(level: i8, resistive: bool) -> i8 {
@@ -119,7 +119,7 @@ fn are_settled(links: &[Link], on: &[Conduct], own: &[i8; 3], bounds: &[i8; 3]) 
 }
 
 /// How many lists of lower bounds are settled, and the last of them.
-pub fn settled_bounds(links: &[Link], on: &[Conduct], own: &[i8; 3]) -> (usize, [i8; 3]) {
+pub(crate) fn settled_bounds(links: &[Link], on: &[Conduct], own: &[i8; 3]) -> (usize, [i8; 3]) {
     let mut count: usize = 0;
     let mut last = [0; 3];
     for code in 0..3_375 {

@@ -142,6 +142,6 @@ static ROWS: [NetlistRow; 27] = [
 ];
 
 /// The rows.
-pub fn rows() -> &'static [NetlistRow] {
+pub(crate) fn rows() -> &'static [NetlistRow] {
     &ROWS
 }

@@ -137,6 +137,6 @@ static ROWS: [NetlistRow; 26] = [
 ];
 
 /// The rows.
-pub fn rows() -> &'static [NetlistRow] {
+pub(crate) fn rows() -> &'static [NetlistRow] {
     &ROWS
 }

@@ -247,6 +247,6 @@ static ROWS: [NetlistRow; 48] = [
 ];
 
 /// The rows.
-pub fn rows() -> &'static [NetlistRow] {
+pub(crate) fn rows() -> &'static [NetlistRow] {
     &ROWS
 }

@@ -132,6 +132,6 @@ static ROWS: [NetlistRow; 25] = [
 ];
 
 /// The rows.
-pub fn rows() -> &'static [NetlistRow] {
+pub(crate) fn rows() -> &'static [NetlistRow] {
     &ROWS
 }

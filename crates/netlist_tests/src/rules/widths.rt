@@ -177,6 +177,6 @@ static ROWS: [NetlistRow; 34] = [
 ];
 
 /// The rows.
-pub fn rows() -> &'static [NetlistRow] {
+pub(crate) fn rows() -> &'static [NetlistRow] {
     &ROWS
 }

@@ -136,6 +136,6 @@ static ROWS: [NetlistRow; 26] = [
     },
 ];
 
-pub fn rows() -> &'static [NetlistRow] {
+pub(crate) fn rows() -> &'static [NetlistRow] {
     &ROWS
 }

@@ -191,6 +191,6 @@ static ROWS: [NetlistRow; 37] = [
     },
 ];
 
-pub fn rows() -> &'static [NetlistRow] {
+pub(crate) fn rows() -> &'static [NetlistRow] {
     &ROWS
 }

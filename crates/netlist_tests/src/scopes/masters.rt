@@ -141,6 +141,6 @@ static ROWS: [NetlistRow; 27] = [
     },
 ];
 
-pub fn rows() -> &'static [NetlistRow] {
+pub(crate) fn rows() -> &'static [NetlistRow] {
     &ROWS
 }

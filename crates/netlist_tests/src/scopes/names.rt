@@ -121,6 +121,6 @@ static ROWS: [NetlistRow; 23] = [
     },
 ];
 
-pub fn rows() -> &'static [NetlistRow] {
+pub(crate) fn rows() -> &'static [NetlistRow] {
     &ROWS
 }

@@ -276,6 +276,6 @@ static ROWS: [NetlistRow; 54] = [
     },
 ];
 
-pub fn rows() -> &'static [NetlistRow] {
+pub(crate) fn rows() -> &'static [NetlistRow] {
     &ROWS
 }

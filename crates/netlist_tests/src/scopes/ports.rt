@@ -226,6 +226,6 @@ static ROWS: [NetlistRow; 44] = [
     },
 ];
 
-pub fn rows() -> &'static [NetlistRow] {
+pub(crate) fn rows() -> &'static [NetlistRow] {
     &ROWS
 }

@@ -111,6 +111,6 @@ static ROWS: [NetlistRow; 21] = [
     },
 ];
 
-pub fn rows() -> &'static [NetlistRow] {
+pub(crate) fn rows() -> &'static [NetlistRow] {
     &ROWS
 }

@@ -151,6 +151,6 @@ static ROWS: [NetlistRow; 29] = [
     },
 ];
 
-pub fn rows() -> &'static [NetlistRow] {
+pub(crate) fn rows() -> &'static [NetlistRow] {
     &ROWS
 }

@@ -301,6 +301,6 @@ static ROWS: [NetlistRow; 59] = [
     },
 ];
 
-pub fn rows() -> &'static [NetlistRow] {
+pub(crate) fn rows() -> &'static [NetlistRow] {
     &ROWS
 }

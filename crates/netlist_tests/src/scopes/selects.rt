@@ -251,6 +251,6 @@ static ROWS: [NetlistRow; 49] = [
     },
 ];
 
-pub fn rows() -> &'static [NetlistRow] {
+pub(crate) fn rows() -> &'static [NetlistRow] {
     &ROWS
 }

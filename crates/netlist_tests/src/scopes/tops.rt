@@ -176,6 +176,6 @@ static ROWS: [NetlistRow; 34] = [
     },
 ];
 
-pub fn rows() -> &'static [NetlistRow] {
+pub(crate) fn rows() -> &'static [NetlistRow] {
     &ROWS
 }

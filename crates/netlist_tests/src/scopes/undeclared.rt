@@ -266,6 +266,6 @@ static ROWS: [NetlistRow; 52] = [
     },
 ];
 
-pub fn rows() -> &'static [NetlistRow] {
+pub(crate) fn rows() -> &'static [NetlistRow] {
     &ROWS
 }

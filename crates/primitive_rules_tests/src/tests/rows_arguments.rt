@@ -113,6 +113,6 @@ static ROWS: [ArgumentsRow; 21] = [
 ];
 
 /// The rows.
-pub fn rows() -> &'static [ArgumentsRow] {
+pub(crate) fn rows() -> &'static [ArgumentsRow] {
     &ROWS
 }

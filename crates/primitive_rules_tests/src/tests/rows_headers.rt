@@ -192,6 +192,6 @@ static ROWS: [PrimitiveRow; 37] = [
 ];
 
 /// The rows.
-pub fn rows() -> &'static [PrimitiveRow] {
+pub(crate) fn rows() -> &'static [PrimitiveRow] {
     &ROWS
 }

@@ -162,6 +162,6 @@ static ROWS: [PrimitiveRow; 31] = [
 ];
 
 /// The rows.
-pub fn rows() -> &'static [PrimitiveRow] {
+pub(crate) fn rows() -> &'static [PrimitiveRow] {
     &ROWS
 }

@@ -247,6 +247,6 @@ static ROWS: [PrimitiveRow; 48] = [
 ];
 
 /// The rows.
-pub fn rows() -> &'static [PrimitiveRow] {
+pub(crate) fn rows() -> &'static [PrimitiveRow] {
     &ROWS
 }

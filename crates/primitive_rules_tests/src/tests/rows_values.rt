@@ -227,6 +227,6 @@ static ROWS: [PrimitiveRow; 44] = [
 ];
 
 /// The rows.
-pub fn rows() -> &'static [PrimitiveRow] {
+pub(crate) fn rows() -> &'static [PrimitiveRow] {
     &ROWS
 }

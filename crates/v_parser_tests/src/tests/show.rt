@@ -1,11 +1,11 @@
 //! Trees as the tables of tests have them.
 
-use v_parser::ParseFault;
 use byte_lists::Bytes;
 use std::alloc::AllocError;
 use std::fmt::Write;
 use udp_table::{Base, Sym};
 use v_lexer::{Bit, Literal};
+use v_parser::ParseFault;
 use v_tree::*;
 
 fn show_bytes(shown: &mut String, bytes: &[u8]) -> Result<(), AllocError> {
@@ -689,7 +689,10 @@ fn show_file(shown: &mut String, file: &File) -> Result<(), AllocError> {
     Ok(())
 }
 
-pub fn show_answer(shown: &mut String, answer: Result<File, ParseFault>) -> Result<(), AllocError> {
+pub(crate) fn show_answer(
+    shown: &mut String,
+    answer: Result<File, ParseFault>,
+) -> Result<(), AllocError> {
     match answer {
         Ok(file) => show_file(shown, &file),
         Err(ParseFault::Unsupported(token)) => {

@@ -232,6 +232,6 @@ static BOUND: [Row; 57] = [
     },
 ];
 
-pub fn bound_rows() -> &'static [Row] {
+pub(crate) fn bound_rows() -> &'static [Row] {
     &BOUND
 }

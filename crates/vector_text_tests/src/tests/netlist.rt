@@ -183,7 +183,7 @@ fn small_parts(alloc: Global) -> Result<Parts, AllocError> {
 
 /// Thirteen nets: outputs `q` and `qn`, inputs `s`, `r`, `v`, `\a+b ` and `\p `, the inout `b`, and
 /// inner nets.
-pub fn small_netlist(rt: &impl Abort, alloc: Global) -> Result<Flat, Fail> {
+pub(crate) fn small_netlist(rt: &impl Abort, alloc: Global) -> Result<Flat, Fail> {
     flat(rt, alloc, small_parts(alloc)?)
 }
 
@@ -202,6 +202,6 @@ fn wide_parts(alloc: Global) -> Result<Parts, AllocError> {
 }
 
 /// One net, with a name of 524,288 bits besides its own.
-pub fn wide_netlist(rt: &impl Abort, alloc: Global) -> Result<Flat, Fail> {
+pub(crate) fn wide_netlist(rt: &impl Abort, alloc: Global) -> Result<Flat, Fail> {
     flat(rt, alloc, wide_parts(alloc)?)
 }

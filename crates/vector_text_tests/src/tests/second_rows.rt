@@ -457,18 +457,18 @@ static FOURTH_PART: [Row; 27] = [
     },
 ];
 
-pub fn first_part() -> &'static [Row] {
+pub(crate) fn first_part() -> &'static [Row] {
     &FIRST_PART
 }
 
-pub fn second_part() -> &'static [Row] {
+pub(crate) fn second_part() -> &'static [Row] {
     &SECOND_PART
 }
 
-pub fn third_part() -> &'static [Row] {
+pub(crate) fn third_part() -> &'static [Row] {
     &THIRD_PART
 }
 
-pub fn fourth_part() -> &'static [Row] {
+pub(crate) fn fourth_part() -> &'static [Row] {
     &FOURTH_PART
 }

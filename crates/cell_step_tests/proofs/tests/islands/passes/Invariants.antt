@@ -4,7 +4,7 @@ use Rattle.flat_net.specs.declared.parts.Parts.{Parts}
 use Rattle.cell_step.specs.declared.states.IslandState.{IslandState}
 use Rattle.cell_step.specs.Fitting.{FitsIsland}
 use Rattle.cell_step.specs.Readings.{island_at}
-use Rattle.cell_step.proofs.tests.islands.passes.Given as goal
+use Rattle.cell_step_tests.proofs.tests.islands.passes.Given as goal
 
 pub record IsReady (parts : Parts) (state : IslandState) (net_room link_room : ℕ) : Type 0 where
   pub fits : FitsIsland parts 0 state

@@ -1,4 +1,4 @@
-use Rattle.cell_step.proofs.tests.islands.count_steps.Given as goal
+use Rattle.cell_step_tests.proofs.tests.islands.count_steps.Given as goal
 
 abbrev pub ghosts-walk_all : goal.ghosts-walk_all
 ghosts-walk_all g a = record { name = a.blank.name; parts = a.blank.parts }
