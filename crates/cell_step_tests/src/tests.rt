@@ -1,7 +1,7 @@
 ghost use Rattle.std.specs.Prelude.{◌≡◌, ◌<◌, ℕ, true, length, slice_index_or, IfOk};
 ghost use Rattle.level_range.specs.Signal.{undriven};
 ghost use Rattle.level_range.specs.declared.range.Conduct.{Conduct};
-ghost use Rattle.flat_net.specs.Patches.{Fits, FitsElement as FitsPatch};
+ghost use Rattle.flat_net.specs.Patches.{Fits, FitsElement as FitsPatch, first_input as first_input_of};
 ghost use Rattle.flat_net.specs.declared.kinds.Cell.{Cell};
 ghost use Rattle.flat_net.specs.declared.parts.Parts.{Parts};
 ghost use Rattle.cell_step.specs.Readings.{IsOutput};
@@ -17,7 +17,6 @@ mod netlists;
 mod run_rows;
 mod switch_rows;
 
-use cell_step::pins::first_input;
 use cell_step::{
     CellState, ElementState, Steps, View, conduct_of, drive_of, element_step, mature, start_element,
 };
@@ -69,6 +68,14 @@ impl View for Seen<'_> {
     fn input(&self, _net: u32) -> Range {
         Range::new(0, 0)
     }
+}
+
+/// The number of the first input pin: inputs follow the ends and the outputs.
+fn first_input(e: &Element) -> usize
+    ensures { result ≡ first_input_of e.now }
+{
+    let ends = if e.ends.is_some() { 2 } else { 0 };
+    ends + e.outs.as_slice().len()
 }
 
 /// Whether a patch fits an element.
