@@ -3,3 +3,6 @@ pub mod Places
 pub mod Passes
 pub mod Pending
 pub mod Inputs
+pub mod Times
+pub mod Keys
+pub mod DueTimes

@@ -1,9 +1,7 @@
 -- The least of the times for which something is pending.
-use Rattle.std.proofs.Common.{◌≡◌, ℕ, zero, suc, ◌+◌, ◌<◌, ◌≤◌, List, [], ◌∷◌, ◌++◌, Option, Some, None, take, length, get_or, refl, ap, sym, ◌∙◌, Bool, true, false, cond, arith, inl, inr}
+use Rattle.std.proofs.Common.{◌≡◌, ℕ, ◌<◌, ◌≤◌, List, [], ◌∷◌, ◌++◌, Option, Some, None, refl, ap, ◌∙◌, Bool, true, false, arith, inl, inr}
 use Rattle.std.specs.Prelude.{min, nat_le, ◌||◌}
-use Rattle.std.specs.List.{list_any, flat_map}
-use Rattle.std.proofs.lemmas.List.{take_more, append-nil}
-use Rattle.std.proofs.lemmas.Grind.{flat_map-append}
+use Rattle.std.specs.List.{list_any}
 use Rattle.std.proofs.lemmas.Bool.{cases_lt, le-leb, lt-leb}
 use Rattle.machine.specs.Run.{lesser, least}
 use Rattle.plain_sim.specs.Times.{earlier}
@@ -20,16 +18,6 @@ least-append (x ∷ xs) ys = ap (λ o. Some (lesser x o)) (least-append xs ys) �
     by_cases None b = refl
     by_cases (Some a) None = refl
     by_cases (Some a) (Some b) = ap (λ n. Some n) (min-assoc x a b)
-
-pub earlier-assoc : (a b c : Option ℕ) → earlier (earlier a b) c ≡ earlier a (earlier b c)
-earlier-assoc None b c = refl
-earlier-assoc (Some a) None c = refl
-earlier-assoc (Some a) (Some b) None = refl
-earlier-assoc (Some a) (Some b) (Some c) = ap (λ n. Some n) (sym (min-assoc a b c))
-
-pub earlier-none : (a : Option ℕ) → earlier a None ≡ a
-earlier-none None = refl
-earlier-none (Some a) = refl
 
 -- whether a time isn't later, where there is one
 abbrev pub is_past : ℕ → Option ℕ → Bool
@@ -54,14 +42,3 @@ least-past now (x ∷ xs) = ap (λ b. nat_le x now || b) (least-past now xs) ∙
       ]
       | inr early ↦ rw (le-leb x now early, le-leb (min x a) now (omega arith)) refl
     ]
-
-flat_map-one : {X : Type 0} (f : X → List ℕ) (x : X) → flat_map f (x ∷ []) ≡ f x
-flat_map-one f x = append-nil (f x)
-
--- the least time of some things and one more
-pub least-more : {X : Type 0} (f : X → List ℕ) (xs : List X) (k : ℕ) (d : X) → k < length xs →
-    least (flat_map f (take (k + 1) xs)) ≡ earlier (least (flat_map f (take k xs))) (least (f (get_or xs k d)))
-least-more f xs k d lt =
-    ap (λ ys. least (flat_map f ys)) (take_more xs k d lt)
-    ∙ ap least (flat_map-append f (take k xs) (get_or xs k d ∷ []) ∙ ap (λ ys. flat_map f (take k xs) ++ ys) (flat_map-one f (get_or xs k d)))
-    ∙ least-append (flat_map f (take k xs)) (f (get_or xs k d))

@@ -49,7 +49,7 @@ fits-element parts number (Island s) fits = absurd fits
 pub has-elements : (parts : Parts) (elements : List CellState) → AreElements parts elements → HasElements parts elements
 has-elements parts elements are number lt = fits-element parts number (state_among elements number) (are.fits number lt)
 
-fits-island : (parts : Parts) (number : ℕ) (s : CellState) → FitsCell parts (IslandCell number) s →
+pub fits-island : (parts : Parts) (number : ℕ) (s : CellState) → FitsCell parts (IslandCell number) s →
     length (island_at parts number).nets ≡ length (as_island s).nets
 fits-island parts number (Element s) fits = absurd fits
 fits-island parts number (Island s) fits = zip-length _ (island_at parts number).nets s.nets fits

@@ -4,17 +4,18 @@ ghost use Rattle.machine.specs.Machine.{start, begin, cell_count};
 ghost use Rattle.machine.specs.Pass.{pass as pass_of, pass_end as pass_end_of, is_machine_due, machine_end, due_times};
 ghost use Rattle.machine.specs.Run.{least};
 
+use crate::due::{follow, wheel_for};
 use crate::forces::{force_inputs, undriven_signals};
 use crate::phases::pass_over;
 use crate::starts::{bench_for, start_elements, start_islands};
-use crate::times::least_time;
-use crate::views::seen_of;
+use crate::views::net_of;
 use cell_step::{Bench, CellState, PassEnd, Steps};
 use flat_net::Flat;
 use level_range::Range;
 use std::alloc::{AllocError, Global};
 use std::marker::Model;
 use std::sync::ledger::Ledger;
+use timing_wheel::Wheel;
 
 /// The run of one netlist, pass by pass. Contracts see the netlist, the limit of passes at one time,
 /// and the machine.
@@ -31,6 +32,7 @@ pub struct PlainRun<'a> {
     elements: Vec<CellState>,
     islands: Vec<CellState>,
     bench: Bench,
+    due: Wheel,
 }
 
 impl<'a> Model for PlainRun<'a> {
@@ -76,6 +78,7 @@ impl<'a> PlainRun<'a> {
         let elements = start_elements(alloc, flat)?;
         let islands = start_islands(alloc, flat)?;
         let bench = bench_for(alloc, flat)?;
+        let due = wheel_for(alloc, flat)?;
         Ok(PlainRun {
             flat,
             limit,
@@ -88,6 +91,7 @@ impl<'a> PlainRun<'a> {
             elements,
             islands,
             bench,
+            due,
         })
     }
 
@@ -124,6 +128,12 @@ impl<'a> PlainRun<'a> {
             &mut self.bench,
             steps,
         );
+        follow(
+            self.flat,
+            self.elements.as_slice(),
+            self.islands.as_slice(),
+            &mut self.due,
+        );
         self.last_inputs.copy_from_slice(self.inputs.as_slice());
         self.has_passed = true;
         self.passes = self.passes.saturating_add(1);
@@ -144,8 +154,8 @@ impl<'a> PlainRun<'a> {
     pub fn next_time(&self) -> Option<u64>
         ensures { result ≡ least (due_times self.now.machine) }
     {
-        let first = least_time(None, self.elements.as_slice());
-        least_time(first, self.islands.as_slice())
+        let _nets = self.flat.net_count();
+        self.due.next_time()
     }
 
     /// The signal that is seen of a net.
@@ -154,6 +164,6 @@ impl<'a> PlainRun<'a> {
         ensures { result ≡ seen_signal self.now net }
     {
         let _nets = self.flat.net_count();
-        seen_of(self.flat, self.islands.as_slice(), net)
+        net_of(self.flat, self.islands.as_slice(), net).seen
     }
 }

@@ -2,7 +2,7 @@
 ghost use Rattle.std.specs.Prelude.{◌≡◌, ◌<◌, length};
 ghost use Rattle.plain_sim.specs.Lists.{HasElements, HasNets, AreForcedNets, net_among, read_by_islands, read_by_elements};
 
-use cell_step::{CellState, View, conduct_of, drive_of};
+use cell_step::{CellState, NetState, View, conduct_of, drive_of};
 use flat_net::{Cell, Flat};
 use level_range::{Conduct, Range};
 
@@ -68,7 +68,7 @@ impl View for ElementView<'_> {
     }
 
     fn seen(&self, net: u32) -> Range {
-        seen_of(self.flat, self.islands, net)
+        net_of(self.flat, self.islands, net).seen
     }
 
     fn input(&self, _net: u32) -> Range {
@@ -76,15 +76,15 @@ impl View for ElementView<'_> {
     }
 }
 
-/// The signal that is seen of a net, which stands at its place in its island.
-pub(crate) fn seen_of(flat: &Flat, islands: &[CellState], net: u32) -> Range
+/// The state of a net, which stands at its place in its island.
+pub(crate) fn net_of(flat: &Flat, islands: &[CellState], net: u32) -> NetState
     requires net { net < length flat.now.parts.nets }
     requires states { HasNets flat.now.parts islands.now }
-    ensures { result ≡ (net_among flat.now.parts islands.now net).seen }
+    ensures { result ≡ net_among flat.now.parts islands.now net }
 {
     let part = flat.net(net);
     match &islands[part.island as usize] {
-        CellState::Island(state) => state.nets.at(part.place as usize).seen,
+        CellState::Island(state) => state.nets.at(part.place as usize),
         CellState::Element(_) => unreachable!(),
     }
 }

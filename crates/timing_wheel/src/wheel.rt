@@ -1,9 +1,8 @@
 //! The finite map from keys to times.
-ghost use Rattle.std.specs.Prelude.{◌≡◌, ◌↔◌, ◌+◌, ◌^◌, ◌<◌, ◌≤◌, length, take, drop, IsNone, IfSome, IfNone, IfOk, OnOk, OnErr};
+ghost use Rattle.std.specs.Prelude.{◌≡◌, ◌↔◌, ◌+◌, ◌-◌, ◌^◌, ◌<◌, ◌≤◌, length, take, drop, IsNone, IfSome, IfNone, IfOk, OnOk, OnErr};
 ghost use Rattle.std.specs.Prelude.{vec_len, vec_capacity, IsPermutation, IsSorted};
 ghost use Rattle.std.specs.Ordering.{nat_cmp};
 ghost use Rattle.std.specs.FinMap.{empty, insert, remove, len};
-ghost use Rattle.timing_wheel.specs.Times.{idle};
 ghost use Rattle.timing_wheel.specs.Entries.{Appends};
 ghost use Rattle.timing_wheel.specs.Wheel.{IsLeastTime, IsLeastDue, HasRoomFor, NoneDue, AppendsDue, spare_after_put, spare_after_cancel};
 
@@ -18,7 +17,7 @@ use std::marker::Model;
 /// The most keys that a wheel may have room for.
 const MOST: usize = 4_000_000_000;
 
-/// Times by key, with the least time at hand. A time is a number of ticks, at most 2^48.
+/// Times by key, with the least time at hand. A time is a number of ticks, any below 2^64 - 1.
 ///
 /// Contracts see the finite map from keys to times, and `spare`: how many new keys fit without more
 /// memory.
@@ -104,25 +103,15 @@ impl Wheel {
         for slot in 0..self.keys.len() as u32 {
             let time = self.schedule.time(slot);
             if time != IDLE {
-                copy.place(self.keys[slot as usize], time);
+                copy.put(self.keys[slot as usize], time);
             }
         }
         Ok(copy)
     }
 
-    /// Gives a key a time, in place of the one that it has.
+    /// Gives a key a time below 2^64 - 1, in place of the one that it has.
     pub fn put(&mut self, key: u32, at: u64)
-        requires time { at ≤ 2 ^ 48 }
-        requires room { HasRoomFor self.old key }
-        ensures times { self.new.times ≡ insert self.old.times key at }
-        ensures spare { self.new.spare ≡ spare_after_put self.old key }
-    {
-        self.place(key, at);
-    }
-
-    /// As `put`, for every time but that of what isn't due.
-    fn place(&mut self, key: u32, at: u64)
-        requires time { at < idle }
+        requires time { at < 2 ^ 64 - 1 }
         requires room { HasRoomFor self.old key }
         ensures times { self.new.times ≡ insert self.old.times key at }
         ensures spare { self.new.spare ≡ spare_after_put self.old key }

@@ -1,12 +1,15 @@
-use Rattle.std.proofs.Common.{◌≡◌, ◌++◌, ℕ, ◌<◌, List, length, get_or, ap, sym, ◌∙◌, arith}
+use Rattle.std.proofs.Common.{◌≡◌, ◌++◌, ℕ, ◌<◌, List, length, get_or, ap, sym, subst, ◌∙◌, arith}
 use Rattle.std.specs.Prelude.{replicate, map}
 use Rattle.std.specs.List.{range_with_len}
-use Rattle.flat_net.specs.declared.kinds.Cell.TheVariants.{Element as ElementCell}
+use Rattle.flat_net.specs.declared.kinds.Cell.TheVariants.{Element as ElementCell, Island as IslandCell}
 use Rattle.std.proofs.lemmas.List.{length-replicate, get_or-replicate}
 use Rattle.level_range.specs.Signal.{Signal, undriven}
 use Rattle.cell_step.specs.declared.states.CellState.{CellState}
 use Rattle.machine.specs.Machine.{input_among, cell_start}
+use Rattle.plain_sim.specs.Due.{AreSoon, key_count}
 use Rattle.plain_sim.proofs.Inputs.{all-undriven}
+use Rattle.plain_sim.proofs.Times.{AllTimes, Soon, start-times, due-none}
+use Rattle.plain_sim.proofs.Keys.{keys-start}
 use Rattle.plain_sim.proofs.Passes.{start-cells, start-is}
 use Rattle.plain_sim.proofs.run.PlainRun.new.Goals as goal
 
@@ -30,6 +33,14 @@ invariant_of-result c =
             ∙ ap (λ (l : List Signal). input_among parts.inputs l net) (sym c.in_ok-inputs.ensures);
       };
       room = c.in_ok-bench.ensures;
+      soon_elements = subst AreSoon (sym c.in_ok-elements.ensures.states) (start-times Soon c.args.flat.now ElementCell (length parts.elements));
+      soon_islands = subst AreSoon (sym c.in_ok-islands.ensures.states) (start-times Soon c.args.flat.now IslandCell (length parts.islands));
+      due =
+          due-none parts c.in_ok-elements.elements.items c.in_ok-islands.islands.items c.in_ok-due.due.times
+          (subst (AllTimes (λ t. ⊥)) (sym c.in_ok-elements.ensures.states) (start-times (λ t. ⊥) c.args.flat.now ElementCell (length parts.elements)))
+          (subst (AllTimes (λ t. ⊥)) (sym c.in_ok-islands.ensures.states) (start-times (λ t. ⊥) c.args.flat.now IslandCell (length parts.islands)))
+          c.in_ok-due.ensures.times;
+      keys = keys-start (key_count parts) c.in_ok-due.due c.in_ok-due.ensures.times c.in_ok-due.ensures.room;
       time = omega arith;
     }
 

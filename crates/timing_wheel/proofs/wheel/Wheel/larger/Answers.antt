@@ -27,13 +27,13 @@ loop-slot-preserved c =
           let key : v.index.result.now ≡ get_or s.keys.items slot 0 = v.index.ensures ∙ get_or_default s.keys.items slot _ 0 fits in
           let used : get_or s.schedule slot 0 ≢ idle = λ e. v.if-time.true (c.time-time.ensures ∙ e) in
           let room : 0 < c.loop-slot.copy.spare = omega (arith, so_far.0, so_far.1, c.max-slots.ensures, c.len.ensures) in
-          let counts = put_counts c.loop-slot.copy.times v.index.result.now c.time-time.result c.loop-slot.copy.spare v.place.new.self.spare room v.place.ensures.spare in
-          let longer : len v.place.new.self.times ≡ len (insert c.loop-slot.copy.times v.index.result.now c.time-time.result) = ap (λ (m : FinMap nat_cmp ℕ). len m) v.place.ensures.times in
+          let counts = put_counts c.loop-slot.copy.times v.index.result.now c.time-time.result c.loop-slot.copy.spare v.put.new.self.spare room v.put.ensures.spare in
+          let longer : len v.put.new.self.times ≡ len (insert c.loop-slot.copy.times v.index.result.now c.time-time.result) = ap (λ (m : FinMap nat_cmp ℕ). len m) v.put.ensures.times in
           rw v.copy-is (
             omega (arith, longer, counts.0, so_far.0),
             omega (arith, longer, counts.1, so_far.1),
-            copies_more s.keys.items s.schedule c.loop-slot.copy.times v.place.new.self.times slot (apart_of s.index s.keys.items s.schedule w.indexed) so_far.2 fits used
-                (v.place.ensures.times ∙ ap (λ (k : ℕ). insert c.loop-slot.copy.times k c.time-time.result) key ∙ ap (insert c.loop-slot.copy.times (get_or s.keys.items slot 0)) c.time-time.ensures),
+            copies_more s.keys.items s.schedule c.loop-slot.copy.times v.put.new.self.times slot (apart_of s.index s.keys.items s.schedule w.indexed) so_far.2 fits used
+                (v.put.ensures.times ∙ ap (λ (k : ℕ). insert c.loop-slot.copy.times k c.time-time.result) key ∙ ap (insert c.loop-slot.copy.times (get_or s.keys.items slot 0)) c.time-time.ensures),
           )
       | else-time v ↦ rw v.copy-is (so_far.0, omega (arith, so_far.1), copies_idle s.keys.items s.schedule c.loop-slot.copy.times c.loop-slot.slot so_far.2 (sym c.time-time.ensures ∙ v.if-time.false))
     ]

@@ -4,7 +4,7 @@ use Rattle.timing_wheel.specs.Index.{IsIndexed, NoneHas}
 use Rattle.timing_wheel.specs.Wheel.{Pending}
 use Rattle.timing_wheel.proofs.Live.{held, none_rests}
 use Rattle.timing_wheel.proofs.Held.{contains_present, contains_absent, held_again, held_add, indexed_add, IsWheel-again}
-use Rattle.timing_wheel.proofs.wheel.Wheel.place.Goals as goal
+use Rattle.timing_wheel.proofs.wheel.Wheel.put.Goals as goal
 
 pub invariant_of-self : goal.invariant_of-self
 invariant_of-self c =

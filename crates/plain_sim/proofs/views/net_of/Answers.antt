@@ -4,7 +4,6 @@ use Rattle.std.proofs.lemmas.List.{get_or_default}
 use Rattle.std.proofs.lemmas.Option.{get_or_from_slice_get}
 use Rattle.flat_net.specs.declared.parts.NetPart.{NetPart}
 use Rattle.flat_net.specs.declared.parts.Parts.{Parts}
-use Rattle.cell_step.specs.declared.states.NetState.{NetState}
 use Rattle.cell_step.specs.declared.states.CellState.{CellState}
 use Rattle.cell_step.specs.declared.states.CellState.TheVariants.{Element, Island}
 use Rattle.cell_step.specs.Readings.{no_net, net_at}
@@ -13,7 +12,7 @@ use Rattle.machine.specs.Machine.{as_island, state_among}
 use Rattle.plain_sim.specs.Lists.{HasNets}
 use Rattle.plain_sim.proofs.Stepping.{no_cell}
 use Rattle.plain_sim.proofs.Places.{island-within}
-use Rattle.plain_sim.proofs.views.seen_of.Goals as goal
+use Rattle.plain_sim.proofs.views.net_of.Goals as goal
 
 -- the place of the net is within its island's states
 place-deep : (parts : Parts) (islands : List CellState) (net : ℕ) (part : NetPart) → net_at parts net ≡ part → net < length parts.nets → HasNets parts islands →
@@ -61,7 +60,6 @@ returns c =
     let deep = place-deep parts c.args.islands.now c.args.net part same c.requires.net c.requires.states in
     let state = sym (get_or_default c.args.islands.now part.island c.index-islands-part.result no_cell
     (island-within c.args.islands.now part.island part.place deep)) ∙ sym c.index-islands-part.is ∙ c.in-Island.is in
-    ap (λ (s : NetState). s.seen)
-    (sym (get_or_from_slice_get c.in-Island.state.nets part.place c.at.result no_state c.at.ensures)
+    sym (get_or_from_slice_get c.in-Island.state.nets part.place c.at.result no_state c.at.ensures)
     ∙ ap (λ (s : CellState). state_at (as_island s).nets part.place) (sym state)
-    ∙ ap (λ (p : NetPart). state_at (as_island (state_among c.args.islands.now p.island)).nets p.place) (sym same))
+    ∙ ap (λ (p : NetPart). state_at (as_island (state_among c.args.islands.now p.island)).nets p.place) (sym same)
