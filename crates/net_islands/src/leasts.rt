@@ -1,0 +1,97 @@
+ghost use Rattle.std.specs.Prelude.{◌≡◌, ◌<◌, ◌≤◌, ◌+◌, IfOk, length, map};
+ghost use Rattle.std.specs.List.{All, range_with_len};
+ghost use Rattle.net_groups.specs.Joins.{AreBelow};
+ghost use Rattle.flat_net.specs.Elements.{switch_ends as switch_ends_of};
+ghost use Rattle.flat_net.specs.Soundness.{greatest_count};
+ghost use Rattle.net_islands.specs.Leasts.{island_numbers as island_numbers_of, leasts as leasts_of, places as places_of, roots};
+
+use flat_net::Element;
+use net_groups::groups_of;
+use std::alloc::{AllocError, Global};
+
+/// The pairs of nets that bidirectional switches join.
+fn switch_ends(alloc: Global, elements: &[Element]) -> Result<Vec<(u32, u32)>, AllocError>
+    ensures { IfOk result (λ pairs. pairs.items ≡ switch_ends_of elements.now) }
+{
+    elements
+        .iter()
+        .filter_map(|element| element.ends)
+        .collect(alloc)
+}
+
+/// For each net the least net that pairs join it with.
+fn pair_leasts(alloc: Global, count: u32, pairs: &[(u32, u32)]) -> Result<Vec<u32>, AllocError>
+    requires { AreBelow count pairs.now }
+    ensures { IfOk result (λ leasts. leasts.items ≡ leasts_of count pairs.now) }
+{
+    groups_of(alloc, count, pairs)
+}
+
+/// For each net the least net that bidirectional switches join it with.
+pub(crate) fn leasts(
+    alloc: Global,
+    count: u32,
+    elements: &[Element],
+) -> Result<Vec<u32>, AllocError>
+    requires { AreBelow count (switch_ends_of elements.now) }
+    ensures { IfOk result (λ leasts. leasts.items ≡ leasts_of count (switch_ends_of elements.now)) }
+{
+    let pairs = switch_ends(alloc, elements)?;
+    pair_leasts(alloc, count, &pairs)
+}
+
+/// For each net, and behind them all, how many nets below it are the least of their islands.
+pub(crate) fn root_counts(alloc: Global, leasts: &[u32]) -> Result<Vec<u32>, AllocError>
+    requires { length leasts.now ≤ greatest_count }
+    ensures { IfOk result (λ counts. counts.items
+        ≡ map (λ net. length (roots leasts.now net)) (range_with_len 0 (length leasts.now + 1))) }
+{
+    let mut counts = Vec::new(alloc);
+    let mut count = 0;
+    for (net, least) in leasts.iter().enumerate() {
+        counts.push(count)?;
+        if *least as usize == net {
+            count += 1;
+        }
+    }
+    counts.push(count)?;
+    Ok(counts)
+}
+
+/// For each net the number of its island.
+pub(crate) fn island_numbers(
+    alloc: Global,
+    leasts: &[u32],
+    counts: &[u32],
+) -> Result<Vec<u32>, AllocError>
+    requires within { All (λ least. least < length leasts.now) leasts.now }
+    requires counts { counts.now
+        ≡ map (λ net. length (roots leasts.now net)) (range_with_len 0 (length leasts.now + 1)) }
+    ensures { IfOk result (λ numbers. numbers.items ≡ island_numbers_of leasts.now) }
+{
+    let mut numbers = Vec::new(alloc);
+    for least in leasts {
+        numbers.push(counts[*least as usize])?;
+    }
+    Ok(numbers)
+}
+
+/// For each net its place in its island, by the numbers of their islands.
+pub(crate) fn places(
+    alloc: Global,
+    count: u32,
+    numbers: &[u32],
+) -> Result<Vec<u32>, AllocError>
+    requires few { length numbers.now ≤ greatest_count }
+    requires within { All (λ number. number < count) numbers.now }
+    ensures { IfOk result (λ places. places.items ≡ places_of numbers.now) }
+{
+    let mut sizes: Vec<u32> = (0..count).map(|_| 0).collect(alloc)?;
+    let mut places = Vec::new(alloc);
+    for number in numbers {
+        let size = sizes[*number as usize];
+        places.push(size)?;
+        sizes[*number as usize] = size + 1;
+    }
+    Ok(places)
+}
