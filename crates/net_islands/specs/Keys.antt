@@ -1,7 +1,6 @@
 -- Items with keys, and for each key the list of its items.
-use Rattle.std.specs.Prelude.{ℕ, ◌==◌, List, map}
+use Rattle.std.specs.Prelude.{ℕ, ◌==◌, List, Vec, map}
 use Rattle.std.specs.List.{filter, range_with_len}
-use Rattle.std_alloc.specs.declared.vec.Vec.{Vec}
 
 -- the items of one key, in their order
 abbrev pub items_of : {X : Type 0} → ℕ → List (ℕ × X) → List X

@@ -21,6 +21,10 @@ roots least number = filter (λ net. slice_index least net == net) (range_with_l
 abbrev pub AreRoots : List ℕ → Type 0
 AreRoots least = All (λ root. (root < length least) × (slice_index least root ≡ root)) least
 
+-- for each number below the count how many roots stand below it
+abbrev pub root_counts : List ℕ → ℕ → List ℕ
+root_counts least count = map (λ number. length (roots least number)) (range_with_len 0 count)
+
 -- how many islands the nets stand in
 abbrev pub island_count : List ℕ → ℕ
 island_count least = length (roots least (length least))

@@ -5,7 +5,7 @@ ghost use Rattle.net_islands.specs.Keys.{lists_in, lists_by_key as lists_by_key_
 use std::alloc::{AllocError, Global};
 
 /// So many empty lists.
-fn empty_lists<T>(alloc: Global, count: u32) -> Result<Vec<Vec<T>>, AllocError>
+fn empty_lists<T: Drop>(alloc: Global, count: u32) -> Result<Vec<Vec<T>>, AllocError>
     ensures { IfOk result (λ lists. lists_in lists.items ≡ replicate count []) }
 {
     let mut lists = Vec::new(alloc);

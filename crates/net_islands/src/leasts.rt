@@ -1,9 +1,9 @@
-ghost use Rattle.std.specs.Prelude.{◌≡◌, ◌<◌, ◌≤◌, ◌+◌, IfOk, length, map};
-ghost use Rattle.std.specs.List.{All, range_with_len};
+ghost use Rattle.std.specs.Prelude.{◌≡◌, ◌<◌, ◌≤◌, ◌+◌, IfOk, length};
+ghost use Rattle.std.specs.List.{All};
 ghost use Rattle.net_groups.specs.Joins.{AreBelow};
 ghost use Rattle.flat_net.specs.Elements.{switch_ends as switch_ends_of};
 ghost use Rattle.flat_net.specs.Soundness.{greatest_count};
-ghost use Rattle.net_islands.specs.Leasts.{island_numbers as island_numbers_of, leasts as leasts_of, places as places_of, roots};
+ghost use Rattle.net_islands.specs.Leasts.{island_numbers as island_numbers_of, leasts as leasts_of, places as places_of, root_counts as root_counts_of};
 
 use flat_net::Element;
 use net_groups::groups_of;
@@ -43,8 +43,8 @@ pub(crate) fn leasts(
 /// For each net, and behind them all, how many nets below it are the least of their islands.
 pub(crate) fn root_counts(alloc: Global, leasts: &[u32]) -> Result<Vec<u32>, AllocError>
     requires { length leasts.now ≤ greatest_count }
-    ensures { IfOk result (λ counts. counts.items
-        ≡ map (λ net. length (roots leasts.now net)) (range_with_len 0 (length leasts.now + 1))) }
+    ensures { IfOk result 
+        (λ counts. counts.items ≡ root_counts_of leasts.now (length leasts.now + 1)) }
 {
     let mut counts = Vec::new(alloc);
     let mut count = 0;
@@ -65,8 +65,7 @@ pub(crate) fn island_numbers(
     counts: &[u32],
 ) -> Result<Vec<u32>, AllocError>
     requires within { All (λ least. least < length leasts.now) leasts.now }
-    requires counts { counts.now
-        ≡ map (λ net. length (roots leasts.now net)) (range_with_len 0 (length leasts.now + 1)) }
+    requires counts { counts.now ≡ root_counts_of leasts.now (length leasts.now + 1) }
     ensures { IfOk result (λ numbers. numbers.items ≡ island_numbers_of leasts.now) }
 {
     let mut numbers = Vec::new(alloc);
@@ -86,7 +85,7 @@ pub(crate) fn places(
     requires within { All (λ number. number < count) numbers.now }
     ensures { IfOk result (λ places. places.items ≡ places_of numbers.now) }
 {
-    let mut sizes: Vec<u32> = (0..count).map(|_| 0).collect(alloc)?;
+    let mut sizes = vec![in alloc; 0; count as usize]?;
     let mut places = Vec::new(alloc);
     for number in numbers {
         let size = sizes[*number as usize];

@@ -1,14 +1,14 @@
 //! The islands of a flat netlist: the nets that bidirectional switches join, over any number of steps.
 #![tactic(auto)]
 
-mod grouping;
+mod groups;
 mod islands;
 mod items;
 mod keys;
 mod leasts;
 mod parts;
 
-pub use grouping::grouping;
+pub use groups::grouping;
 pub use parts::{Grouping, NetClass, NetPlace, PlaceList};
 
 #[cfg(test)]

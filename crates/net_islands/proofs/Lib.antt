@@ -1,0 +1,5 @@
+pub mod Ranges
+pub mod KeyLemmas
+pub mod KeyRanks
+pub mod LeastLemmas
+pub mod RootLemmas
