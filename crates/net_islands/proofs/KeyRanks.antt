@@ -95,6 +95,9 @@ enumerate-at b (y ∷ xs) (suc n) x e =
     let k : b + 1 + n ≡ b + suc n = omega arith in
     enumerate-at (b + 1) xs n x e ∙ ap (λ (m : ℕ). Some (m, x)) k
 
+pub enumerate-at_zero : {X : Type 0} (xs : List X) (n : ℕ) (x : X) → slice_get xs n ≡ Some x → slice_get (enumerate_from 0 xs) n ≡ Some (n, x)
+enumerate-at_zero xs n x e = let z : 0 + n ≡ n = omega arith in enumerate-at 0 xs n x e ∙ ap (λ (m : ℕ). Some (m, x)) z
+
 pub enumerate-from : {X : Type 0} (b : ℕ) (xs : List X) (n : ℕ) (p : ℕ × X) → slice_get (enumerate_from b xs) n ≡ Some p → (p.0 ≡ b + n) × (slice_get xs n ≡ Some p.1)
 enumerate-from b [] n p e = absurd (none-some p e)
 enumerate-from {X = X} b (y ∷ xs) zero p e =

@@ -1,5 +1,12 @@
 pub mod Ranges
 pub mod KeyLemmas
 pub mod KeyRanks
+pub mod Numbers
+pub mod Finding
+pub mod Items
+pub mod Members
+pub mod IslandLaws
+pub mod Apart
+pub mod DistinctLaws
 pub mod LeastLemmas
 pub mod RootLemmas

@@ -74,11 +74,14 @@ list_islands count nets pins switches =
     map (λ number. island (slice_index_or nets number []) (slice_index_or pins number []) (slice_index_or switches number []))
     (range_with_len 0 count)
 
+-- so many islands of nets, output pins and switches, by the numbers of the islands
+abbrev pub item_islands : ℕ → List (ℕ × (ℕ × NetClass)) → List (ℕ × Drive) → List (ℕ × (ℕ × Link)) → List Island
+item_islands count nets pins switches = list_islands count (lists_by_key count nets) (lists_by_key count pins) (lists_by_key count switches)
+
 -- the islands, by the numbers and places of the nets
 abbrev pub islands : ℕ → List ℕ → List ℕ → List NetClass → List Element → List Bool → List Island
 islands count numbers within nets elements resistive =
-    list_islands count (lists_by_key count (members numbers nets)) (lists_by_key count (drives numbers within elements))
-    (lists_by_key count (links numbers within elements resistive))
+    item_islands count (members numbers nets) (drives numbers within elements) (links numbers within elements resistive)
 
 -- for each net its island and its place there
 abbrev pub net_places : List ℕ → List ℕ → List NetPlace

@@ -5,7 +5,7 @@ ghost use Rattle.net_islands.specs.Leasts.{AreRoots};
 ghost use Rattle.net_islands.specs.Islands.{HasNets, grouping as grouping_of, grouping_by as grouping_by_of, net_places as net_places_of};
 
 use crate::islands::islands;
-use crate::leasts::{island_numbers, leasts, places, root_counts};
+use crate::leasts::{leasts, numbers, places};
 use crate::parts::{Grouping, NetClass, NetPlace};
 use flat_net::Element;
 use list_of::ListOf;
@@ -44,13 +44,14 @@ fn grouping_by(
     ensures { IfOk result (λ grouping. grouping
         ≡ grouping_by_of leasts.now nets.now elements.now resistive.now) }
 {
-    let counts = root_counts(alloc, leasts)?;
-    let count = counts[leasts.len()];
-    let numbers = island_numbers(alloc, leasts, &counts)?;
-    let within = places(alloc, count, &numbers)?;
-    let islands = islands(alloc, count, &numbers, &within, nets, elements, resistive)?;
+    let (count, numbers) = numbers(alloc, leasts)?;
+    let numbers = numbers.as_slice();
+    let within = places(alloc, count, numbers)?;
+    let within = within.as_slice();
+    let places = net_places(alloc, numbers, within)?;
+    let islands = islands(alloc, count, numbers, within, nets, elements, resistive)?;
     Ok(Grouping {
-        places: ListOf::from_vec(net_places(alloc, &numbers, &within)?),
+        places: ListOf::from_vec(places),
         islands: ListOf::from_vec(islands),
     })
 }
@@ -73,5 +74,5 @@ pub fn grouping(
         ≡ grouping_of nets.now elements.now resistive.now) }
 {
     let leasts = leasts(alloc, nets.len() as u32, elements)?;
-    grouping_by(alloc, &leasts, nets, elements, resistive)
+    grouping_by(alloc, leasts.as_slice(), nets, elements, resistive)
 }

@@ -1,9 +1,9 @@
-ghost use Rattle.std.specs.Prelude.{◌≡◌, ◌<◌, ◌≤◌, IfOk, length};
+ghost use Rattle.std.specs.Prelude.{◌≡◌, ◌<◌, ◌≤◌, IfOk, length, map};
 ghost use Rattle.std.specs.List.{All};
 ghost use Rattle.flat_net.specs.Islands.{combination_kind as combination_kind_of};
 ghost use Rattle.flat_net.specs.Soundness.{greatest_count};
 ghost use Rattle.net_islands.specs.Keys.{lists_in};
-ghost use Rattle.net_islands.specs.Islands.{HasNets, island as island_of, islands as islands_of, list_islands as list_islands_of, shape as shape_of};
+ghost use Rattle.net_islands.specs.Islands.{HasNets, island as island_of, islands as islands_of, item_islands as item_islands_of, list_islands as list_islands_of, shape as shape_of};
 
 use crate::items::{drives, links, members};
 use crate::keys::lists_by_key;
@@ -25,16 +25,47 @@ fn combination_kind(kind: NetKind) -> Kind
     }
 }
 
-fn shape(alloc: Global, nets: &[(u32, NetClass)], links: &[(u32, Link)]) -> Result<Shape, AllocError>
+/// The numbers of nets or elements beside something else.
+fn numbers_of<T>(alloc: Global, items: &[(u32, T)]) -> Result<Vec<u32>, AllocError>
+    ensures { IfOk result (λ numbers. numbers.items ≡ map (λ item. item.0) items.now) }
+{
+    items.iter().map(|item| item.0).collect(alloc)
+}
+
+/// How the drivers of each net are combined.
+fn kinds(alloc: Global, nets: &[(u32, NetClass)]) -> Result<Vec<Kind>, AllocError>
+    ensures { IfOk result
+        (λ kinds. kinds.items ≡ map (λ net. combination_kind_of net.1.kind) nets.now) }
+{
+    nets.iter().map(|net| combination_kind(net.1.kind)).collect(alloc)
+}
+
+/// The level of the charge of each net.
+fn charges(alloc: Global, nets: &[(u32, NetClass)]) -> Result<Vec<u8>, AllocError>
+    ensures { IfOk result (λ levels. levels.items ≡ map (λ net. net.1.charge) nets.now) }
+{
+    nets.iter().map(|net| net.1.charge).collect(alloc)
+}
+
+/// The switches beside their elements.
+fn switches(alloc: Global, links: &[(u32, Link)]) -> Result<Vec<Link>, AllocError>
+    ensures { IfOk result (λ switches. switches.items ≡ map (λ link. link.1) links.now) }
+{
+    links.iter().map(|link| link.1).collect(alloc)
+}
+
+/// How an island of these nets and switches settles.
+fn shape(
+    alloc: Global,
+    nets: &[(u32, NetClass)],
+    links: &[(u32, Link)],
+) -> Result<Shape, AllocError>
     ensures { IfOk result (λ shape. shape ≡ shape_of nets.now links.now) }
 {
-    let kinds = nets.iter().map(|net| combination_kind(net.1.kind)).collect(alloc)?;
-    let charge = nets.iter().map(|net| net.1.charge).collect(alloc)?;
-    let links = links.iter().map(|link| link.1).collect(alloc)?;
     Ok(Shape {
-        kinds: KindList::from_vec(kinds),
-        charge: LevelList::from_vec(charge),
-        links: LinkList::from_vec(links),
+        kinds: KindList::from_vec(kinds(alloc, nets)?),
+        charge: LevelList::from_vec(charges(alloc, nets)?),
+        links: LinkList::from_vec(switches(alloc, links)?),
     })
 }
 
@@ -47,12 +78,10 @@ fn island(
 ) -> Result<Island, AllocError>
     ensures { IfOk result (λ island. island ≡ island_of nets.now drives.now links.now) }
 {
-    let numbers = nets.iter().map(|net| net.0).collect(alloc)?;
-    let switches = links.iter().map(|link| link.0).collect(alloc)?;
     Ok(Island {
-        nets: NetList::from_vec(numbers),
+        nets: NetList::from_vec(numbers_of(alloc, nets)?),
         drives: ListOf::from_vec(Vec::from_slice(alloc, drives)?),
-        links: ListOf::from_vec(switches),
+        links: ListOf::from_vec(numbers_of(alloc, links)?),
         shape: shape(alloc, nets, links)?,
     })
 }
@@ -77,6 +106,26 @@ fn list_islands(
     Ok(islands)
 }
 
+/// So many islands of these nets, output pins and switches, by the numbers of the islands.
+fn item_islands(
+    alloc: Global,
+    count: u32,
+    nets: &[(u32, (u32, NetClass))],
+    drives: &[(u32, Drive)],
+    links: &[(u32, (u32, Link))],
+) -> Result<Vec<Island>, AllocError>
+    requires nets { All (λ net. net.0 < count) nets.now }
+    requires drives { All (λ drive. drive.0 < count) drives.now }
+    requires links { All (λ link. link.0 < count) links.now }
+    ensures { IfOk result
+        (λ islands. islands.items ≡ item_islands_of count nets.now drives.now links.now) }
+{
+    let nets = lists_by_key(alloc, count, nets)?;
+    let drives = lists_by_key(alloc, count, drives)?;
+    let links = lists_by_key(alloc, count, links)?;
+    list_islands(alloc, nets.as_slice(), drives.as_slice(), links.as_slice())
+}
+
 /// The islands of a netlist, by the numbers of the islands and the places of its nets.
 pub(crate) fn islands(
     alloc: Global,
@@ -97,8 +146,8 @@ pub(crate) fn islands(
     ensures { IfOk result (λ islands. islands.items
         ≡ islands_of count numbers.now places.now nets.now elements.now resistive.now) }
 {
-    let nets = lists_by_key(alloc, count, &members(alloc, numbers, nets)?)?;
-    let drives = lists_by_key(alloc, count, &drives(alloc, numbers, places, elements)?)?;
-    let links = lists_by_key(alloc, count, &links(alloc, numbers, places, elements, resistive)?)?;
-    list_islands(alloc, &nets, &drives, &links)
+    let nets = members(alloc, numbers, nets)?;
+    let drives = drives(alloc, numbers, places, elements)?;
+    let links = links(alloc, numbers, places, elements, resistive)?;
+    item_islands(alloc, count, nets.as_slice(), drives.as_slice(), links.as_slice())
 }

@@ -3,7 +3,7 @@ ghost use Rattle.std.specs.List.{All};
 ghost use Rattle.net_groups.specs.Joins.{AreBelow};
 ghost use Rattle.flat_net.specs.Elements.{switch_ends as switch_ends_of};
 ghost use Rattle.flat_net.specs.Soundness.{greatest_count};
-ghost use Rattle.net_islands.specs.Leasts.{island_numbers as island_numbers_of, leasts as leasts_of, places as places_of, root_counts as root_counts_of};
+ghost use Rattle.net_islands.specs.Leasts.{AreRoots, island_count, island_numbers as island_numbers_of, leasts as leasts_of, places as places_of, root_counts as root_counts_of};
 
 use flat_net::Element;
 use net_groups::groups_of;
@@ -41,7 +41,7 @@ pub(crate) fn leasts(
 }
 
 /// For each net, and behind them all, how many nets below it are the least of their islands.
-pub(crate) fn root_counts(alloc: Global, leasts: &[u32]) -> Result<Vec<u32>, AllocError>
+fn root_counts(alloc: Global, leasts: &[u32]) -> Result<Vec<u32>, AllocError>
     requires { length leasts.now ≤ greatest_count }
     ensures { IfOk result 
         (λ counts. counts.items ≡ root_counts_of leasts.now (length leasts.now + 1)) }
@@ -59,7 +59,7 @@ pub(crate) fn root_counts(alloc: Global, leasts: &[u32]) -> Result<Vec<u32>, All
 }
 
 /// For each net the number of its island.
-pub(crate) fn island_numbers(
+fn island_numbers(
     alloc: Global,
     leasts: &[u32],
     counts: &[u32],
@@ -73,6 +73,18 @@ pub(crate) fn island_numbers(
         numbers.push(counts[*least as usize])?;
     }
     Ok(numbers)
+}
+
+/// How many islands there are, and for each net the number of its island.
+pub(crate) fn numbers(alloc: Global, leasts: &[u32]) -> Result<(u32, Vec<u32>), AllocError>
+    requires few { length leasts.now ≤ greatest_count }
+    requires roots { AreRoots leasts.now }
+    ensures count { IfOk result (λ r. r.0 ≡ island_count leasts.now) }
+    ensures numbers { IfOk result (λ r. r.1.items ≡ island_numbers_of leasts.now) }
+{
+    let counts = root_counts(alloc, leasts)?;
+    let numbers = island_numbers(alloc, leasts, counts.as_slice())?;
+    Ok((counts[leasts.len()], numbers))
 }
 
 /// For each net its place in its island, by the numbers of their islands.

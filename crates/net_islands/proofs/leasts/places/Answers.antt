@@ -1,4 +1,5 @@
-use Rattle.std.proofs.Common.{◌≡◌, ◌+◌, ◌<◌, ◌≤◌, ℕ, ◌==◌, List, [], ◌∷◌, ◌++◌, length, map, take, get_or, set, rules, refl, sym, ap, ◌∙◌, arith, inl, inr}
+use Rattle.std.proofs.Common.{◌≡◌, ◌+◌, ◌<◌, ◌≤◌, ℕ, ◌==◌, List, [], ◌∷◌, ◌++◌, length, map, take, get_or, set, refl, sym, ap, ◌∙◌, arith, inl, inr}
+use Rattle.std.specs.Prelude.{replicate}
 use Rattle.std.specs.List.{count_by, range_with_len}
 use Rattle.std.proofs.lemmas.Bool.{cases_eq, eq-eqb, ne_eqb}
 use Rattle.std.proofs.lemmas.List.{length-take-le, length-set, get_or-set_same, get_or-set_other, get_or-replicate, length-replicate, get_or_default}
@@ -58,11 +59,13 @@ overflow_add-size c =
     omega arith
 
 pub loop-number-init : goal.loop-number-init
-loop-number-init c = record {
-  all = search rules;
-  sizes = λ key lt. search rules;
-  places = search rules;
-}
+loop-number-init c =
+    let zeros : c.in_ok-sizes.sizes.items ≡ replicate c.args.count 0 = c.in_ok-sizes.ensures.items_if_clones_equal (λ y p. p) in
+    record {
+      all = ap length zeros ∙ length-replicate c.args.count 0;
+      sizes = λ key lt. ap (λ (xs : List ℕ). get_or xs key 0) zeros ∙ get_or-replicate c.args.count key 0 0 lt;
+      places = c.new-places.ensures.items;
+    }
 
 pub loop-number-preserved : goal.loop-number-preserved
 loop-number-preserved c =
