@@ -21,7 +21,7 @@ module _ {Y Z : Type 0} (key : Y → Z) where
   apart-tail x xs h i j a b e f same = let s : suc i ≡ suc j = h (suc i) (suc j) a b e f same in omega arith
 
   AreApart-append : (xs ys : List Y) → AreApart key xs → AreApart key ys → (Meet xs ys → ⊥) → AreApart key (xs ++ ys)
-  AreApart-append [] ys h k none = k
+  AreApart-append [] ys h k none i j a b e f same = k i j a b e f same
   AreApart-append (x ∷ xs) ys h k none zero zero a b e f same = refl
   AreApart-append (x ∷ xs) ys h k none zero (suc j) a b e f same = elim (append-from xs ys j b f) [
     | inl there ↦ let s : 0 ≡ suc there.0 = h 0 (suc there.0) a b e there.1 same in absurd (omega arith)

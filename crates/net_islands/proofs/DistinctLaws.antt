@@ -1,5 +1,5 @@
 -- The drives of the islands name each output pin once, and their links each bidirectional switch.
-use Rattle.std.proofs.Common.{◌≡◌, ◌+◌, ◌<◌, ◌≤◌, ℕ, Bool, false, List, [], ◌∷◌, length, map, get_or, Some, None, refl, sym, ap, subst, ◌∙◌, arith}
+use Rattle.std.proofs.Common.{◌≡◌, ◌+◌, ◌<◌, ◌≤◌, ℕ, Bool, true, false, List, [], ◌∷◌, length, map, get_or, Some, None, refl, sym, ap, subst, ◌∙◌, arith}
 use Rattle.std.specs.Prelude.{slice_get, Option}
 use Rattle.std.specs.Option.{IsSome, option_map}
 use Rattle.std.specs.List.{All, Contains, enumerate_from, flat_map, filter_map}
@@ -20,10 +20,10 @@ use Rattle.net_islands.proofs.KeyRanks.{enumerate-at_zero, enumerate-from}
 use Rattle.net_islands.proofs.Apart.{AreApart, AreApart-flat_map, AreApart-filter_map, keys-distinct, keys-separate, keys-has}
 use Rattle.net_islands.proofs.Numbers.{number-lt}
 use Rattle.net_islands.proofs.IslandLaws.{numbered, all_islands, islands-at, islands-from}
-use Rattle.net_islands.proofs.Items.{valid-at, out-lt, ends-lt}
+use Rattle.net_islands.proofs.ItemLemmas.{valid-at, out-lt, ends-lt}
 
 some_ends : {X : Type 0} (o : Option X) → IsSome o → (x : X) × (o ≡ Some x)
-some_ends None h = absurd h
+some_ends None h = let never : false ≡ true = h in cc
 some_ends (Some x) h = (x, refl)
 
 module _ (nets : List NetClass) (elements : List Element) (resistive : List Bool) (least : List ℕ) (groups : AreGroups (length nets) (switch_ends elements) least) where

@@ -26,7 +26,7 @@ use Rattle.net_islands.specs.Islands.{HasNets, members, drive, drives, element_d
 use Rattle.net_islands.specs.Parts.{class_of, place_of, StandsAt}
 use Rattle.net_islands.proofs.Finding.{IsIn, ComesFrom, map-at, map-from, flat_map-from, filter_map-from, filter_map-has, some-map, All-from_gets, AllZip-maps, Contains-from_get}
 use Rattle.net_islands.proofs.KeyRanks.{rank_of, enumerate-from, zip-at, zip-from}
-use Rattle.net_islands.proofs.Items.{DriveFrom, LinkFrom, drive-from, link-from, valid-at, out-lt, ends-lt}
+use Rattle.net_islands.proofs.ItemLemmas.{DriveFrom, LinkFrom, drive-from, link-from, valid-at, out-lt, ends-lt}
 use Rattle.net_islands.proofs.Members.{IsMember, nets_of, stands, member_of, stands-from}
 use Rattle.net_islands.proofs.Numbers.{numbers-length, places-length, number-lt, joined-from, joined-to, net-of}
 

@@ -1,7 +1,7 @@
 -- One more item in the lists by key.
 use Rattle.std.proofs.Common.{◌≡◌, ◌+◌, ◌<◌, ℕ, zero, suc, Bool, true, false, cond, ◌==◌, List, [], ◌∷◌, ◌++◌, length, map, take, get_or, set, refl, sym, ap, subst, ◌∙◌, arith, inl, inr}
 use Rattle.std.specs.Prelude.{Vec, replicate}
-use Rattle.std.specs.List.{filter, range_with_len}
+use Rattle.std.specs.List.{All, filter, range_with_len}
 use Rattle.std.proofs.lemmas.Bool.{cases_eq, eq-eqb, ne_eqb}
 use Rattle.std.proofs.lemmas.List.{same_lists, append-nil, map-append, take_more, length-map, length-set, get_or-map, get_or-set_same, get_or-set_other, map-set}
 use Rattle.std.proofs.lemmas.List.Elements.{filter-append}
@@ -57,7 +57,7 @@ no_items a zero = refl
 no_items {X = X} a (suc count) = ap (λ (ls : List (List X)). [] ∷ ls) (no_items (a + 1) count)
 
 -- no key has an item of none
-pub lists_by_key-none : {X : Type 0} (count : ℕ) → lists_by_key {X} count [] ≡ replicate count []
+pub lists_by_key-none : {X : Type 0} (count : ℕ) → lists_by_key {X = X} count [] ≡ replicate count []
 lists_by_key-none count = no_items 0 count
 
 pub length-lists_by_key : {X : Type 0} (count : ℕ) (items : List (ℕ × X)) → length (lists_by_key count items) ≡ count
@@ -71,13 +71,20 @@ lists_in-at {X = X} {Z = Z} vectors i vector lt at =
 pub lists_in-set : {X Z : Type 0} (vectors : List (Vec X Z)) (i : ℕ) (vector : Vec X Z) → lists_in (set vectors i vector) ≡ set (lists_in vectors) i vector.items
 lists_in-set {X = X} {Z = Z} vectors i vector = map-set (λ (v : Vec X Z). v.items) vectors i vector
 
+-- as many vectors as keys
+pub vectors-length : {X Z : Type 0} (count : ℕ) (items : List (ℕ × X)) (lists : List (Vec X Z)) → lists_in lists ≡ lists_by_key count items → length lists ≡ count
+vectors-length {X = X} {Z = Z} count items lists same =
+    sym (length-map lists (λ (v : Vec X Z). v.items)) ∙ ap length same ∙ length-lists_by_key count items
+
+pub key-below : {X : Type 0} (count : ℕ) (items : List (ℕ × X)) (i : ℕ) (item : ℕ × X) → All (λ (x : ℕ × X). x.0 < count) items → i < length items → item ≡ get_or items i item → item.0 < count
+key-below {X = X} count items i item all lt at = subst (λ (x : ℕ × X). x.0 < count) (sym at) (all i item lt)
+
 -- one more item pushed to the vector of its key
 pub lists_more : {X Z : Type 0} (count : ℕ) (items : List (ℕ × X)) (i : ℕ) (item : ℕ × X) (lists : List (Vec X Z)) (old new : Vec X Z) →
     i < length items → item ≡ get_or items i item → item.0 < count → lists_in lists ≡ lists_by_key count (take i items) →
     old ≡ get_or lists item.0 old → new.items ≡ old.items ++ item.1 ∷ [] → lists_in (set lists item.0 new) ≡ lists_by_key count (take (i + 1) items)
 lists_more {X = X} {Z = Z} count items i item lists old new lt at below same read pushed =
-    let long : length lists ≡ count
-    = sym (length-map lists (λ (v : Vec X Z). v.items)) ∙ ap length same ∙ length-lists_by_key count (take i items) in
+    let long : length lists ≡ count = vectors-length count (take i items) lists same in
     let old-items : old.items ≡ items_of item.0 (take i items)
     = sym (lists_in-at lists item.0 old (omega arith) read) ∙ ap (λ (ls : List (List X)). get_or ls item.0 []) same
       ∙ get_or-map-range_with_len (λ (n : ℕ). items_of n (take i items)) 0 count item.0 item.0 [] below (omega arith) in

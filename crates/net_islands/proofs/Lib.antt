@@ -3,10 +3,11 @@ pub mod KeyLemmas
 pub mod KeyRanks
 pub mod Numbers
 pub mod Finding
-pub mod Items
+pub mod ItemLemmas
 pub mod Members
 pub mod IslandLaws
 pub mod Apart
 pub mod DistinctLaws
 pub mod LeastLemmas
 pub mod RootLemmas
+pub mod Laws

@@ -13,9 +13,9 @@ use Rattle.net_islands.proofs.Finding.{map-at, map-from}
 use Rattle.net_islands.proofs.KeyRanks.{rank, at_rank, rank_of, rank-zip, enumerate-at, enumerate-from, zip-at, zip-from}
 
 -- a net of the island with its class, and its place there
-pub record IsMember (numbers : List ℕ) (nets : List NetClass) (key j net : ℕ) (class : NetClass) : Type 0 where
+pub record IsMember (numbers : List ℕ) (nets : List NetClass) (key j net : ℕ) (c : NetClass) : Type 0 where
   pub number : slice_get numbers net ≡ Some key
-  pub class : slice_get nets net ≡ Some class
+  pub class : slice_get nets net ≡ Some c
   pub place : place numbers net ≡ j
 
 module _ (numbers : List ℕ) (nets : List NetClass) (all : length numbers ≡ length nets) where

@@ -1,8 +1,9 @@
 ghost use Rattle.std.specs.Prelude.{◌≡◌, ◌≤◌, IfOk, length};
 ghost use Rattle.std.specs.List.{All};
-ghost use Rattle.flat_net.specs.Soundness.{greatest_count};
+ghost use Rattle.flat_net.specs.Soundness.{AreDriven, AreJoined, AreLinked, greatest_count};
 ghost use Rattle.net_islands.specs.Leasts.{AreRoots};
 ghost use Rattle.net_islands.specs.Islands.{HasNets, grouping as grouping_of, grouping_by as grouping_by_of, net_places as net_places_of};
+ghost use Rattle.net_islands.specs.Parts.{AreIslands, ArePlaces, Gives};
 
 use crate::islands::islands;
 use crate::leasts::{leasts, numbers, places};
@@ -70,8 +71,13 @@ pub fn grouping(
     requires few_elements { length elements.now ≤ greatest_count }
     requires elements { All (HasNets (length nets.now)) elements.now }
     requires resistive { length resistive.now ≡ length elements.now }
-    ensures { IfOk result (λ grouping. grouping
+    ensures value { IfOk result (λ grouping. grouping
         ≡ grouping_of nets.now elements.now resistive.now) }
+    ensures islands { IfOk result (Gives AreIslands nets.now elements.now) }
+    ensures places { IfOk result (Gives ArePlaces nets.now elements.now) }
+    ensures joined { IfOk result (Gives AreJoined nets.now elements.now) }
+    ensures drives { IfOk result (Gives AreDriven nets.now elements.now) }
+    ensures links { IfOk result (Gives AreLinked nets.now elements.now) }
 {
     let leasts = leasts(alloc, nets.len() as u32, elements)?;
     grouping_by(alloc, leasts.as_slice(), nets, elements, resistive)

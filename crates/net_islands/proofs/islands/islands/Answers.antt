@@ -6,7 +6,7 @@ use Rattle.flat_net.specs.declared.parts.Drive.{Drive}
 use Rattle.flat_net.specs.declared.parts.Island.{Island}
 use Rattle.net_islands.specs.declared.parts.NetClass.{NetClass}
 use Rattle.net_islands.specs.Islands.{HasNets, item_islands}
-use Rattle.net_islands.proofs.Items.{members-below, drives-below, links-below}
+use Rattle.net_islands.proofs.ItemLemmas.{members-below, drives-below, links-below}
 use Rattle.net_islands.proofs.islands.islands.Goals as goal
 
 below_in : {X : Type 0} (count : ℕ) (slice items made : List (ℕ × X)) → slice ≡ items → items ≡ made → All (λ (x : ℕ × X). x.0 < count) made → All (λ (x : ℕ × X). x.0 < count) slice
