@@ -44,21 +44,21 @@ module _ (nets : List NetClass) (elements : List Element) (resistive : List Bool
     gathered-distinct : AreApart (λ (item : ℕ × X). key item.1) items → AreDistinct (flat_map f the_islands)
     gathered-distinct apart =
         let whole = AreApart-flat_map (λ (z : Z). z) f the_islands
-            (λ k isl e i j a b g h eq.
-            let is = islands-from nets elements resistive least groups k isl e in
-            let list : f isl ≡ map key (items_of k items) = ap f (sym is.1) ∙ same k in
-            let first : slice_get (map key (items_of k items)) i ≡ Some a = ap (λ (zs : List Z). slice_get zs i) (sym list) ∙ g in
-            let second : slice_get (map key (items_of k items)) j ≡ Some a
-            = ap (λ (zs : List Z). slice_get zs j) (sym list) ∙ h ∙ ap (λ (z : Z). Some z) (sym eq) in
-            keys-distinct key items apart k i j a first second)
-            (λ k l isl jsl e g m.
-            let is = islands-from nets elements resistive least groups k isl e in
-            let js = islands-from nets elements resistive least groups l jsl g in
-            let list-k : f isl ≡ map key (items_of k items) = ap f (sym is.1) ∙ same k in
-            let list-l : f jsl ≡ map key (items_of l items) = ap f (sym js.1) ∙ same l in
-            let first : IsIn (map key (items_of k items)) m.0 = subst (λ (zs : List Z). IsIn zs m.0) list-k m.2 in
-            let second : IsIn (map key (items_of l items)) m.1 = subst (λ (zs : List Z). IsIn zs m.1) list-l m.3 in
-            keys-separate key items apart k l m.0 first (subst (λ (z : Z). IsIn (map key (items_of l items)) z) (sym m.4) second)) in
+        (λ k isl e i j a b g h eq.
+        let is = islands-from nets elements resistive least groups k isl e in
+        let list : f isl ≡ map key (items_of k items) = ap f (sym is.1) ∙ same k in
+        let first : slice_get (map key (items_of k items)) i ≡ Some a = ap (λ (zs : List Z). slice_get zs i) (sym list) ∙ g in
+        let second : slice_get (map key (items_of k items)) j ≡ Some a
+        = ap (λ (zs : List Z). slice_get zs j) (sym list) ∙ h ∙ ap (λ (z : Z). Some z) (sym eq) in
+        keys-distinct key items apart k i j a first second)
+        (λ k l isl jsl e g m.
+        let is = islands-from nets elements resistive least groups k isl e in
+        let js = islands-from nets elements resistive least groups l jsl g in
+        let list-k : f isl ≡ map key (items_of k items) = ap f (sym is.1) ∙ same k in
+        let list-l : f jsl ≡ map key (items_of l items) = ap f (sym js.1) ∙ same l in
+        let first : IsIn (map key (items_of k items)) m.0 = subst (λ (zs : List Z). IsIn zs m.0) list-k m.2 in
+        let second : IsIn (map key (items_of l items)) m.1 = subst (λ (zs : List Z). IsIn zs m.1) list-l m.3 in
+        keys-separate key items apart k l m.0 first (subst (λ (z : Z). IsIn (map key (items_of l items)) z) (sym m.4) second)) in
         λ i j x e g. whole i j x x e g refl
 
     gathered-has : (n k : ℕ) (x : X) → k < island_count least → slice_get items n ≡ Some (k, x) → Contains (flat_map f the_islands) (key x)
@@ -107,7 +107,7 @@ module _ (nets : List NetClass) (elements : List Element) (resistive : List Bool
       let out : IsIn (element_drives numbers within i e.outs) (drive numbers within i pin net)
       = (pin, map-at (λ (out : ℕ × ℕ). drive numbers within i out.0 out.1) (enumerate_from 0 e.outs) pin (pin, net) (enumerate-at_zero e.outs pin net g)) in
       let item = flat_map-has (λ (e : ℕ × Element). element_drives numbers within e.0 e.1.outs) (enumerate_from 0 elements) i (i, e) (drive numbers within i pin net)
-          (enumerate-at_zero elements i e f) out in
+      (enumerate-at_zero elements i e f) out in
       gathered-has pin_of (drives numbers within elements) (λ island. map (λ (d : Drive). (d.element, d.pin)) island.drives) (λ k. refl)
       item.0 (get_or numbers net 0) (drive numbers within i pin net).1 (number-lt (length nets) (switch_ends elements) least groups net lt) item.1
 

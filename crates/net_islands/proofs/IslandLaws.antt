@@ -141,13 +141,12 @@ module _ (nets : List NetClass) (elements : List Element) (resistive : List Bool
     pub joins : (a b : ℕ) → a < length parts → b < length parts → (island_of parts a ≡ island_of parts b) ↔ IsJoined (switch_ends elements) a b
     joins a b a-lt b-lt =
         let a-in : a < length nets = omega (arith, parts-length) in
-        let b-in : b < length nets = omega (arith, parts-length) in
-        (
+        let b-in : b < length nets = omega (arith, parts-length) in (
           λ e. joined-from (length nets) (switch_ends elements) least groups a b a-in b-in
-          (same_Some (get_or numbers a 0) (get_or numbers b 0) (sym (number-of a a-lt) ∙ e ∙ number-of b b-lt)),
+              (same_Some (get_or numbers a 0) (get_or numbers b 0) (sym (number-of a a-lt) ∙ e ∙ number-of b b-lt)),
           λ walk. number-of a a-lt
-          ∙ ap (λ (n : ℕ). Some n) (joined-to (length nets) (switch_ends elements) least groups a b a-in b-in walk)
-          ∙ sym (number-of b b-lt),
+              ∙ ap (λ (n : ℕ). Some n) (joined-to (length nets) (switch_ends elements) least groups a b a-in b-in walk)
+              ∙ sym (number-of b b-lt),
         )
 
     -- a member of an island as a part
@@ -199,13 +198,13 @@ module _ (nets : List NetClass) (elements : List Element) (resistive : List Bool
       is-island : (number : ℕ) → number < count → IsIsland parts elements number (numbered number)
       is-island number lt = record {
         filled =
-          let n = net-of (length nets) (switch_ends elements) least groups number lt in
-          let h = slice_get_within (numbered number).nets (get_or within n.0 0) n.0 (seated number n.0 n.1 n.2) in
-          omega arith;
+            let n = net-of (length nets) (switch_ends elements) least groups number lt in
+            let h = slice_get_within (numbered number).nets (get_or within n.0 0) n.0 (seated number n.0 n.1 n.2) in
+            omega arith;
         places = λ j net f.
-          let m = stands-from numbers nets all number j net f in
-          let p = member-part number j net m.0 m.1 in
-          and_some (λ (part : NetPart). (part.island ≡ number) × (part.place ≡ j)) (slice_get parts net) p.0 p.1 (p.2, p.3);
+            let m = stands-from numbers nets all number j net f in
+            let p = member-part number j net m.0 m.1 in
+            and_some (λ (part : NetPart). (part.island ≡ number) × (part.place ≡ j)) (slice_get parts net) p.0 p.1 (p.2, p.3);
         drives = All-from_gets (IsDrive elements (numbered number).nets) (items_of number (drives numbers within elements)) (drive-holds number);
         links = AllZip-maps (IsLink elements (numbered number).nets) (λ (s : ℕ × Link). s.0) (λ (s : ℕ × Link). s.1)
             (items_of number (links numbers within elements resistive)) (link-holds number);

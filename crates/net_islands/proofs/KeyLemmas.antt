@@ -87,7 +87,7 @@ lists_more {X = X} {Z = Z} count items i item lists old new lt at below same rea
     let long : length lists ≡ count = vectors-length count (take i items) lists same in
     let old-items : old.items ≡ items_of item.0 (take i items)
     = sym (lists_in-at lists item.0 old (omega arith) read) ∙ ap (λ (ls : List (List X)). get_or ls item.0 []) same
-      ∙ get_or-map-range_with_len (λ (n : ℕ). items_of n (take i items)) 0 count item.0 item.0 [] below (omega arith) in
+    ∙ get_or-map-range_with_len (λ (n : ℕ). items_of n (take i items)) 0 count item.0 item.0 [] below (omega arith) in
     let more : take (i + 1) items ≡ take i items ++ item ∷ []
     = take_more items i item lt ∙ ap (λ (x : ℕ × X). take i items ++ x ∷ []) (sym at) in
     lists_in-set lists item.0 new

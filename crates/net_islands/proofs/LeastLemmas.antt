@@ -187,5 +187,5 @@ AreGroups-leasts count pairs below =
     let flat : IsFlat (range_with_len 0 count)
     = λ n lt. let e = own n (omega (arith, long)) in ap (λ (k : ℕ). get_or (range_with_len 0 count) k 0) e in
     let whole = along [] pairs (range_with_len 0 count) (subst (λ (n : ℕ). AreBelow n pairs) (sym long) below)
-        (JoinsAlike-none (range_with_len 0 count) single) flat in
+    (JoinsAlike-none (range_with_len 0 count) single) flat in
     subst (λ (n : ℕ). AreGroups n pairs (leasts count pairs)) long whole

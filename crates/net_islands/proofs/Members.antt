@@ -50,7 +50,7 @@ module _ (numbers : List ℕ) (nets : List NetClass) (all : length numbers ≡ l
         number = number;
         class = subst (λ (k : ℕ). slice_get nets k ≡ Some m.1) same n.1;
         place = ap (λ (k : ℕ). count_by (λ number. number == k) (take m.0 numbers)) at
-        ∙ sym (rank-is key m.0) ∙ ap (λ (k : ℕ). rank key (members numbers nets) k) (sym same) ∙ r.2;
+            ∙ sym (rank-is key m.0) ∙ ap (λ (k : ℕ). rank key (members numbers nets) k) (sym same) ∙ r.2;
       }
 
   -- what stands in an island's list is a net of it, at its place

@@ -41,9 +41,10 @@ drives numbers within elements =
 
 -- a switch between two nets, and the element that it is, by the island of its first end
 abbrev pub link : List ℕ → List ℕ → Bool → ℕ → ℕ × ℕ → ℕ × (ℕ × Link)
-link numbers within resistive element ends =
-    (slice_index numbers ends.0,
-    (element, record { a = slice_index within ends.0; b = slice_index within ends.1; resistive = resistive }))
+link numbers within resistive element ends = (
+  slice_index numbers ends.0,
+  (element, record { a = slice_index within ends.0; b = slice_index within ends.1; resistive = resistive }),
+)
 
 -- the bidirectional switches, in order
 abbrev pub links : List ℕ → List ℕ → List Element → List Bool → List (ℕ × (ℕ × Link))

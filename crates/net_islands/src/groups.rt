@@ -13,18 +13,17 @@ use list_of::ListOf;
 use std::alloc::{AllocError, Global};
 
 /// For each net its island and its place there.
-fn net_places(
-    alloc: Global,
-    numbers: &[u32],
-    places: &[u32],
-) -> Result<Vec<NetPlace>, AllocError>
+fn net_places(alloc: Global, numbers: &[u32], places: &[u32]) -> Result<Vec<NetPlace>, AllocError>
     requires { length places.now ≡ length numbers.now }
     ensures { IfOk result (λ nets. nets.items ≡ net_places_of numbers.now places.now) }
 {
     numbers
         .iter()
         .zip(places)
-        .map(|(island, place)| NetPlace { island: *island, place: *place })
+        .map(|(island, place)| NetPlace {
+            island: *island,
+            place: *place,
+        })
         .collect(alloc)
 }
 

@@ -37,7 +37,9 @@ fn kinds(alloc: Global, nets: &[(u32, NetClass)]) -> Result<Vec<Kind>, AllocErro
     ensures { IfOk result
         (λ kinds. kinds.items ≡ map (λ net. combination_kind_of net.1.kind) nets.now) }
 {
-    nets.iter().map(|net| combination_kind(net.1.kind)).collect(alloc)
+    nets.iter()
+        .map(|net| combination_kind(net.1.kind))
+        .collect(alloc)
 }
 
 /// The level of the charge of each net.
@@ -149,5 +151,11 @@ pub(crate) fn islands(
     let nets = members(alloc, numbers, nets)?;
     let drives = drives(alloc, numbers, places, elements)?;
     let links = links(alloc, numbers, places, elements, resistive)?;
-    item_islands(alloc, count, nets.as_slice(), drives.as_slice(), links.as_slice())
+    item_islands(
+        alloc,
+        count,
+        nets.as_slice(),
+        drives.as_slice(),
+        links.as_slice(),
+    )
 }

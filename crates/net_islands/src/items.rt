@@ -40,7 +40,14 @@ fn push_drives(
 {
     for (pin, net) in outs.iter().enumerate() {
         let place = places[*net as usize];
-        drives.push((numbers[*net as usize], Drive { element, pin: pin as u32, place }))?;
+        drives.push((
+            numbers[*net as usize],
+            Drive {
+                element,
+                pin: pin as u32,
+                place,
+            },
+        ))?;
     }
     Ok(())
 }
@@ -60,7 +67,13 @@ pub(crate) fn drives(
 {
     let mut drives = Vec::new(alloc);
     for (number, element) in elements.iter().enumerate() {
-        push_drives(&mut drives, numbers, places, number as u32, element.outs.as_slice())?;
+        push_drives(
+            &mut drives,
+            numbers,
+            places,
+            number as u32,
+            element.outs.as_slice(),
+        )?;
     }
     Ok(drives)
 }
@@ -80,7 +93,10 @@ fn link(
 {
     let a = places[ends.0 as usize];
     let b = places[ends.1 as usize];
-    (numbers[ends.0 as usize], (element, Link { a, b, resistive }))
+    (
+        numbers[ends.0 as usize],
+        (element, Link { a, b, resistive }),
+    )
 }
 
 /// The bidirectional switches, in order, by the islands of their first ends.

@@ -43,7 +43,7 @@ pub(crate) fn leasts(
 /// For each net, and behind them all, how many nets below it are the least of their islands.
 fn root_counts(alloc: Global, leasts: &[u32]) -> Result<Vec<u32>, AllocError>
     requires { length leasts.now ≤ greatest_count }
-    ensures { IfOk result 
+    ensures { IfOk result
         (λ counts. counts.items ≡ root_counts_of leasts.now (length leasts.now + 1)) }
 {
     let mut counts = Vec::new(alloc);
@@ -59,11 +59,7 @@ fn root_counts(alloc: Global, leasts: &[u32]) -> Result<Vec<u32>, AllocError>
 }
 
 /// For each net the number of its island.
-fn island_numbers(
-    alloc: Global,
-    leasts: &[u32],
-    counts: &[u32],
-) -> Result<Vec<u32>, AllocError>
+fn island_numbers(alloc: Global, leasts: &[u32], counts: &[u32]) -> Result<Vec<u32>, AllocError>
     requires within { All (λ least. least < length leasts.now) leasts.now }
     requires counts { counts.now ≡ root_counts_of leasts.now (length leasts.now + 1) }
     ensures { IfOk result (λ numbers. numbers.items ≡ island_numbers_of leasts.now) }
@@ -88,11 +84,7 @@ pub(crate) fn numbers(alloc: Global, leasts: &[u32]) -> Result<(u32, Vec<u32>), 
 }
 
 /// For each net its place in its island, by the numbers of their islands.
-pub(crate) fn places(
-    alloc: Global,
-    count: u32,
-    numbers: &[u32],
-) -> Result<Vec<u32>, AllocError>
+pub(crate) fn places(alloc: Global, count: u32, numbers: &[u32]) -> Result<Vec<u32>, AllocError>
     requires few { length numbers.now ≤ greatest_count }
     requires within { All (λ number. number < count) numbers.now }
     ensures { IfOk result (λ places. places.items ≡ places_of numbers.now) }

@@ -1,4 +1,4 @@
-//! The islands of a flat netlist: the nets that bidirectional switches join, over any number of steps.
+//! The islands of a flat netlist: the nets that bidirectional switches join.
 #![tactic(auto)]
 
 mod groups;

@@ -51,12 +51,12 @@ returns c =
     let within : c.as_slice-within.result.now ≡ places (island_numbers least) = c.as_slice-within.ensures.value ∙ c.in_ok-within.ensures ∙ ap places numbers in
     let places-are : c.from_vec.result ≡ net_places (island_numbers least) (places (island_numbers least))
     = c.from_vec.ensures ∙ c.in_ok-places.ensures
-      ∙ ap (λ (xs : List ℕ). net_places xs c.as_slice-within.result.now) numbers
-      ∙ ap (λ (xs : List ℕ). net_places (island_numbers least) xs) within in
+    ∙ ap (λ (xs : List ℕ). net_places xs c.as_slice-within.result.now) numbers
+    ∙ ap (λ (xs : List ℕ). net_places (island_numbers least) xs) within in
     let islands-are : c.from_vec-2.result ≡ islands (island_count least) (island_numbers least) (places (island_numbers least)) c.args.nets.now c.args.elements.now c.args.resistive.now
     = c.from_vec-2.ensures ∙ c.in_ok-islands.ensures
-      ∙ ap (λ (k : ℕ). islands k c.as_slice-numbers.result.now c.as_slice-within.result.now c.args.nets.now c.args.elements.now c.args.resistive.now) c.in_ok-count.ensures.count
-      ∙ ap (λ (xs : List ℕ). islands (island_count least) xs c.as_slice-within.result.now c.args.nets.now c.args.elements.now c.args.resistive.now) numbers
-      ∙ ap (λ (xs : List ℕ). islands (island_count least) (island_numbers least) xs c.args.nets.now c.args.elements.now c.args.resistive.now) within in
+    ∙ ap (λ (k : ℕ). islands k c.as_slice-numbers.result.now c.as_slice-within.result.now c.args.nets.now c.args.elements.now c.args.resistive.now) c.in_ok-count.ensures.count
+    ∙ ap (λ (xs : List ℕ). islands (island_count least) xs c.as_slice-within.result.now c.args.nets.now c.args.elements.now c.args.resistive.now) numbers
+    ∙ ap (λ (xs : List ℕ). islands (island_count least) (island_numbers least) xs c.args.nets.now c.args.elements.now c.args.resistive.now) within in
     ap (λ (ps : List NetPlace). made ps c.from_vec-2.result) places-are
     ∙ ap (λ (is : List Island). made (net_places (island_numbers least) (places (island_numbers least))) is) islands-are

@@ -27,7 +27,13 @@ module _ {Z : Type 0} (nets : List (Vec (ℕ × NetClass) Z)) (drives : List (Ve
 
 pub loop-number-preserved : goal.loop-number-preserved
 loop-number-preserved c =
-    rw (c.in_ok-push.ensures.items, c.in_ok-island.ensures, c.deref.ensures.value, c.deref-in-loop-number.ensures.value, c.deref-in-loop-number-2.ensures.value,
-    c.loop-number.invariant)
+    rw (
+      c.in_ok-push.ensures.items,
+      c.in_ok-island.ensures,
+      c.deref.ensures.value,
+      c.deref-in-loop-number.ensures.value,
+      c.deref-in-loop-number-2.ensures.value,
+      c.loop-number.invariant,
+    )
     (islands_more c.args.nets.now c.args.drives.now c.args.links.now c.loop-number.number c.index-nets-number.result c.index-drives-number.result
     c.index-links-number.result c.loop-number-test.true c.requires.drives c.requires.links c.index-nets-number.is c.index-drives-number.is c.index-links-number.is)

@@ -14,9 +14,9 @@ members_more numbers nets i d all lt =
     let c-long : length (take i nets) ≡ i = length-take-le i nets (omega arith) in
     sym (ap (λ (xs : List ℕ). zip xs (enumerate_from 0 (take (i + 1) nets))) (take_more numbers i 0 (omega arith))
     ∙ ap (λ (ys : List (ℕ × NetClass)). zip (take i numbers ++ get_or numbers i 0 ∷ []) ys)
-      (enumerate_more nets i (get_or nets i d) lt (get_or_default nets i d (get_or nets i d) lt))
+    (enumerate_more nets i (get_or nets i d) lt (get_or_default nets i d (get_or nets i d) lt))
     ∙ zip-push (take i numbers) (enumerate_from 0 (take i nets)) (get_or numbers i 0) (i, get_or nets i d)
-      (n-long ∙ sym c-long ∙ sym (length-enumerate_from 0 (take i nets))))
+    (n-long ∙ sym c-long ∙ sym (length-enumerate_from 0 (take i nets))))
 
 pub loop-net-preserved : goal.loop-net-preserved
 loop-net-preserved c =

@@ -79,6 +79,6 @@ loop-number-preserved c =
       sizes = sizes_more c.args.numbers.now c.loop-number.sizes.items c.args.count c.loop-number.number-index lt all
           c.index-size.result.now below c.loop-number.invariant.sizes read;
       places = c.in_ok-push.ensures.items
-      ∙ places_more c.args.numbers.now c.loop-number.sizes.items c.args.count c.loop-number.number-index lt all
-      c.loop-number.places.items c.index-size.result.now below c.loop-number.invariant.sizes read c.loop-number.invariant.places;
+          ∙ places_more c.args.numbers.now c.loop-number.sizes.items c.args.count c.loop-number.number-index lt all
+          c.loop-number.places.items c.index-size.result.now below c.loop-number.invariant.sizes read c.loop-number.invariant.places;
     }
