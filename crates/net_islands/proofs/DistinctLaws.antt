@@ -1,8 +1,8 @@
 -- The drives of the islands name each output pin once, and their links each bidirectional switch.
-use Rattle.std.proofs.Common.{◌≡◌, ◌+◌, ◌<◌, ◌≤◌, ℕ, Bool, true, false, List, [], ◌∷◌, length, map, get_or, Some, None, refl, sym, ap, subst, ◌∙◌, arith}
+use Rattle.std.proofs.Common.{◌≡◌, ◌<◌, ℕ, Bool, true, false, List, length, map, get_or, Some, None, refl, sym, ap, subst, ◌∙◌, arith}
 use Rattle.std.specs.Prelude.{slice_get, Option}
 use Rattle.std.specs.Option.{IsSome, option_map}
-use Rattle.std.specs.List.{All, Contains, enumerate_from, flat_map, filter_map}
+use Rattle.std.specs.List.{All, Contains, enumerate_from, flat_map}
 use Rattle.net_groups.specs.Joins.{AreGroups}
 use Rattle.net_settle.specs.declared.shape.Link.{Link}
 use Rattle.flat_net.specs.Lists.{EachAt, AreDistinct}

@@ -1,9 +1,9 @@
 -- What soundness says of each net and of each island holds of the islands of the definition.
-use Rattle.std.proofs.Common.{◌≡◌, ◌+◌, ◌<◌, ◌≤◌, ℕ, Bool, false, List, [], ◌∷◌, length, map, get_or, Some, None, refl, sym, ap, subst, ◌∙◌, arith, inl, inr}
+use Rattle.std.proofs.Common.{◌≡◌, ◌<◌, ℕ, Bool, List, [], length, map, get_or, Some, sym, ap, subst, ◌∙◌, arith}
 use Rattle.std.specs.Prelude.{◌↔◌, slice_get, Option}
 use Rattle.std.specs.Option.{IsSomeAnd, option_map}
-use Rattle.std.specs.List.{All, AllZip, Contains, enumerate_from, range_with_len, zip}
-use Rattle.std.proofs.lemmas.Option.{same_Some, none-some, slice_get-get_or, slice_get_within, get_or_from_slice_get}
+use Rattle.std.specs.List.{All, zip}
+use Rattle.std.proofs.lemmas.Option.{same_Some, slice_get-get_or, slice_get_within, get_or_from_slice_get}
 use Rattle.std.proofs.lemmas.List.{length-map}
 use Rattle.std.proofs.lemmas.List.FromFn.{length-map-range_with_len, get_or-map-range_with_len}
 use Rattle.net_groups.specs.Joins.{IsJoined, AreGroups}
@@ -14,7 +14,7 @@ use Rattle.flat_net.specs.declared.parts.NetPart.{NetPart}
 use Rattle.flat_net.specs.declared.parts.Element.{Element}
 use Rattle.flat_net.specs.declared.parts.Drive.{Drive}
 use Rattle.flat_net.specs.declared.parts.Island.{Island}
-use Rattle.flat_net.specs.Elements.{end_nets, switch_ends}
+use Rattle.flat_net.specs.Elements.{switch_ends}
 use Rattle.flat_net.specs.Islands.{IsIsland, IsDrive, IsLink, combination_kind}
 use Rattle.flat_net.specs.Soundness.{island_of}
 use Rattle.flat_net.proofs.Somes.{and_some, there}
@@ -22,11 +22,11 @@ use Rattle.net_islands.specs.declared.parts.NetClass.{NetClass}
 use Rattle.net_islands.specs.declared.parts.NetPlace.{NetPlace}
 use Rattle.net_islands.specs.Keys.{items_of, lists_by_key}
 use Rattle.net_islands.specs.Leasts.{island_count, island_numbers, place, places}
-use Rattle.net_islands.specs.Islands.{HasNets, members, drive, drives, element_drives, link, links, island, islands, list_islands, net_places}
+use Rattle.net_islands.specs.Islands.{HasNets, members, drives, links, island, islands, net_places}
 use Rattle.net_islands.specs.Parts.{class_of, place_of, StandsAt}
-use Rattle.net_islands.proofs.Finding.{IsIn, ComesFrom, map-at, map-from, flat_map-from, filter_map-from, filter_map-has, some-map, All-from_gets, AllZip-maps, Contains-from_get}
-use Rattle.net_islands.proofs.KeyRanks.{rank_of, enumerate-from, zip-at, zip-from}
-use Rattle.net_islands.proofs.ItemLemmas.{DriveFrom, LinkFrom, drive-from, link-from, valid-at, out-lt, ends-lt}
+use Rattle.net_islands.proofs.Finding.{map-at, filter_map-has, All-from_gets, AllZip-maps, Contains-from_get}
+use Rattle.net_islands.proofs.KeyRanks.{rank_of, zip-at}
+use Rattle.net_islands.proofs.ItemLemmas.{drive-from, link-from, valid-at, out-lt, ends-lt}
 use Rattle.net_islands.proofs.Members.{IsMember, nets_of, stands, member_of, stands-from}
 use Rattle.net_islands.proofs.Numbers.{numbers-length, places-length, number-lt, joined-from, joined-to, net-of}
 

@@ -1,5 +1,5 @@
 -- What soundness says of islands holds of all parts with the islands of the definition.
-use Rattle.std.proofs.Common.{◌≡◌, ◌<◌, ℕ, Bool, List, length, sym, subst}
+use Rattle.std.proofs.Common.{◌≡◌, ℕ, Bool, List, length, sym, subst}
 use Rattle.std.specs.Prelude.{◌↔◌}
 use Rattle.std.specs.Option.{IsSome}
 use Rattle.std.specs.List.{All, Contains}

@@ -1,6 +1,6 @@
 -- Lists made by index, with one element more.
-use Rattle.std.proofs.Common.{◌≡◌, ◌+◌, ◌<◌, ◌≤◌, ℕ, suc, List, [], ◌∷◌, ◌++◌, length, map, take, get_or, refl, sym, ap, ◌∙◌, arith}
-use Rattle.std.specs.List.{range_with_len, enumerate_from, zip, flat_map}
+use Rattle.std.proofs.Common.{◌≡◌, ◌+◌, ◌<◌, ℕ, List, [], ◌∷◌, ◌++◌, length, map, take, get_or, refl, sym, ap, ◌∙◌, arith}
+use Rattle.std.specs.List.{range_with_len, enumerate_from, zip}
 use Rattle.std.proofs.lemmas.List.{map-id, take_more, length-take-le, map-append}
 use Rattle.std.proofs.lemmas.List.FromFn.{map-range_with_len_more}
 

@@ -1,5 +1,5 @@
 -- The islands of a netlist: their nets, what drives them, and the switches that join them.
-use Rattle.std.specs.Prelude.{ℕ, ◌<◌, ◌≤◌, ◌^◌, Bool, false, List, [], length, map, Option, slice_index, slice_index_or}
+use Rattle.std.specs.Prelude.{ℕ, ◌<◌, ◌≤◌, ◌^◌, Bool, false, List, [], length, map, slice_index, slice_index_or}
 use Rattle.std.specs.Option.{option_map}
 use Rattle.std.specs.List.{All, flat_map, filter_map, enumerate_from, range_with_len, zip}
 use Rattle.net_settle.specs.declared.shape.Link.{Link}

@@ -6,7 +6,7 @@ use Rattle.flat_net.specs.declared.parts.Drive.{Drive}
 use Rattle.flat_net.specs.declared.parts.Island.{Island}
 use Rattle.net_islands.specs.declared.parts.NetClass.{NetClass}
 use Rattle.net_islands.specs.Keys.{lists_by_key, lists_in}
-use Rattle.net_islands.specs.Islands.{list_islands, item_islands}
+use Rattle.net_islands.specs.Islands.{list_islands}
 use Rattle.net_islands.proofs.KeyLemmas.{length-lists_by_key}
 use Rattle.net_islands.proofs.islands.item_islands.Goals as goal
 
