@@ -10,6 +10,3 @@ mod parts;
 
 pub use groups::grouping;
 pub use parts::{Grouping, NetClass, NetPlace, PlaceList};
-
-#[cfg(test)]
-mod tests;
