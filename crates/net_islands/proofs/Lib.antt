@@ -1,0 +1,13 @@
+pub mod Ranges
+pub mod KeyLemmas
+pub mod KeyRanks
+pub mod Numbers
+pub mod Finding
+pub mod ItemLemmas
+pub mod Members
+pub mod IslandLaws
+pub mod Apart
+pub mod DistinctLaws
+pub mod LeastLemmas
+pub mod RootLemmas
+pub mod Laws

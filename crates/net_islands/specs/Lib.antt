@@ -1,0 +1,4 @@
+pub mod Keys
+pub mod Leasts
+pub mod Islands
+pub mod Parts
