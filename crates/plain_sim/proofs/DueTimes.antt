@@ -152,10 +152,12 @@ listed-net parts sound islands are y h =
     let nets = (as_island (state_among islands number)).nets in
     let state = listed-piece net_times nets no_state y (listed-islands parts number islands are lt y cell.2) in
     let long = fits-island parts number (state_among islands number) (are.fits number lt) in
-    let at = net-place parts sound number state.0 lt (let l = state.1 in omega arith) in
-    (at.0, at.1,
-    subst (λ (i : ℕ). Contains (net_times (state_at (as_island (state_among islands i)).nets (net_at parts at.0).place)) y) (sym at.2)
-    (subst (λ (p : ℕ). Contains (net_times (state_at nets p)) y) (sym at.3) state.2))
+    let at = net-place parts sound number state.0 lt (let l = state.1 in omega arith) in (
+      at.0,
+      at.1,
+      subst (λ (i : ℕ). Contains (net_times (state_at (as_island (state_among islands i)).nets (net_at parts at.0).place)) y) (sym at.2)
+          (subst (λ (p : ℕ). Contains (net_times (state_at nets p)) y) (sym at.3) state.2),
+    )
 
 -- ---- the times of keys
 

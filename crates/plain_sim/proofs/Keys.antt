@@ -85,7 +85,7 @@ module _ (parts : Parts) (islands : List CellState) (net : ℕ) (lt : net < leng
   pub net-set : change-time ≡ change_time parts islands net → timer-time ≡ timer_time parts islands net → HasNetTimes parts islands new net
   net-set e f = (
     ap (λ (q : ℕ). get new q) (sym is-change) ∙ set-other mid new timer timer-time change adds (λ g. omega arith)
-    ∙ set-here old mid change change-time sets ∙ e,
+        ∙ set-here old mid change change-time sets ∙ e,
     ap (λ (q : ℕ). get new q) (sym is-timer) ∙ set-here mid new timer timer-time adds ∙ f,
   )
 

@@ -394,7 +394,7 @@ pub soon-after : (netlist : Netlist) (now : ℕ) (forced : List Signal) (element
     AreSoon grown × AreSoon done
 soon-after netlist now forced elements islands given held grown done early soon near same alike settled aimed = (
   subst AreSoon (sym aimed)
-  (soon-elements netlist now (read_by_elements netlist done) (ripe now given) early (left-times Soon now given (subst AreSoon (sym same) soon))),
+      (soon-elements netlist now (read_by_elements netlist done) (ripe now given) early (left-times Soon now given (subst AreSoon (sym same) soon))),
   subst AreSoon (sym settled)
-  (soon-islands netlist now (read_by_islands netlist (ripe now given) forced) (ripe now held) early (left-times Soon now held (subst AreSoon (sym alike) near))),
+      (soon-islands netlist now (read_by_islands netlist (ripe now given) forced) (ripe now held) early (left-times Soon now held (subst AreSoon (sym alike) near))),
 )

@@ -129,12 +129,7 @@ fn follow_nets(flat: &Flat, islands: &[CellState], due: &mut Wheel)
 }
 
 /// The wheel has the times for which something is pending in these states. It takes no memory.
-pub(crate) fn follow(
-    flat: &Flat,
-    elements: &[CellState],
-    islands: &[CellState],
-    due: &mut Wheel,
-)
+pub(crate) fn follow(flat: &Flat, elements: &[CellState], islands: &[CellState], due: &mut Wheel)
     requires elements { AreElements flat.now.parts elements.now }
     requires islands { AreIslands flat.now.parts islands.now }
     requires soon_elements { AreSoon elements.now }
