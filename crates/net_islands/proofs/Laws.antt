@@ -30,7 +30,7 @@ module _ (nets : List NetClass) (elements : List Element) (resistive : List Bool
   Gives-islands parts h =
       let each = EachAt-islands nets elements resistive least groups parts.nets h.nets h.places valid in
       subst (λ (is : List Island). EachAt (IsIsland parts.nets parts.elements) is) (sym h.islands)
-      (subst (λ (es : List Element). EachAt (IsIsland parts.nets es) (grouping nets elements resistive).islands) (sym h.gates) each)
+      (subst (λ (es : List Element). EachAt (IsIsland parts.nets es) (grouping nets elements resistive).islands) (sym h.same_elements) each)
 
   pub Gives-places : Gives ArePlaces nets elements (grouping nets elements resistive)
   Gives-places parts h =
@@ -39,13 +39,13 @@ module _ (nets : List NetClass) (elements : List Element) (resistive : List Bool
 
   pub Gives-joined : Gives AreJoined nets elements (grouping nets elements resistive)
   Gives-joined parts h a b a-lt b-lt =
-      subst (λ (es : List Element). (island_of parts.nets a ≡ island_of parts.nets b) ↔ IsJoined (switch_ends es) a b) (sym h.gates)
+      subst (λ (es : List Element). (island_of parts.nets a ≡ island_of parts.nets b) ↔ IsJoined (switch_ends es) a b) (sym h.same_elements)
       (joins nets elements resistive least groups parts.nets h.nets h.places a b a-lt b-lt)
 
   pub Gives-drives : Gives AreDriven nets elements (grouping nets elements resistive)
   Gives-drives parts h = record {
     once = subst (λ (is : List Island). AreDistinct (drive_pins is)) (sym h.islands) (drives-once nets elements resistive least groups);
-    each = subst (λ (es : List Element). EachAt (λ element e. EachAt (λ pin net. Contains (drive_pins parts.islands) (element, pin)) e.outs) es) (sym h.gates)
+    each = subst (λ (es : List Element). EachAt (λ element e. EachAt (λ pin net. Contains (drive_pins parts.islands) (element, pin)) e.outs) es) (sym h.same_elements)
         (subst (λ (is : List Island). EachAt (λ element e. EachAt (λ pin net. Contains (drive_pins is) (element, pin)) e.outs) elements) (sym h.islands)
         (drives-each nets elements resistive least groups valid));
   }
@@ -53,7 +53,7 @@ module _ (nets : List NetClass) (elements : List Element) (resistive : List Bool
   pub Gives-links : Gives AreLinked nets elements (grouping nets elements resistive)
   Gives-links parts h = record {
     once = subst (λ (is : List Island). AreDistinct (link_elements is)) (sym h.islands) (links-once nets elements resistive least groups);
-    each = subst (λ (es : List Element). EachAt (λ element e. IsSome e.ends → Contains (link_elements parts.islands) element) es) (sym h.gates)
+    each = subst (λ (es : List Element). EachAt (λ element e. IsSome e.ends → Contains (link_elements parts.islands) element) es) (sym h.same_elements)
         (subst (λ (is : List Island). EachAt (λ element e. IsSome e.ends → Contains (link_elements is) element) elements) (sym h.islands)
         (links-each nets elements resistive least groups valid));
   }

@@ -22,7 +22,7 @@ place_of part = record { island = part.island; place = part.place }
 -- the parts have nets of these classes and these elements, and the islands and the places of the grouping
 pub record AreGrouped (classes : List NetClass) (elements : List Element) (grouping : Grouping) (parts : Parts) : Type 0 where
   pub nets : map class_of parts.nets ≡ classes
-  pub gates : parts.elements ≡ elements
+  pub same_elements : parts.elements ≡ elements
   pub places : map place_of parts.nets ≡ grouping.places
   pub islands : parts.islands ≡ grouping.islands
 
