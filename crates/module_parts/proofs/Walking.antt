@@ -21,6 +21,11 @@ map-flat_map g f [] = refl
 map-flat_map {B = B} g f (x ∷ xs) =
     map-append g (f x) (flat_map f xs) ∙ ap (λ (rest : List B). map g (f x) ++ rest) (map-flat_map g f xs)
 
+-- a list whose elements become others twice
+pub map-map : {X A B : Type 0} (g : A → B) (f : X → A) (xs : List X) → map g (map f xs) ≡ map (λ x. g (f x)) xs
+map-map g f [] = refl
+map-map {B = B} g f (x ∷ xs) = ap (λ (rest : List B). g (f x) ∷ rest) (map-map g f xs)
+
 -- what is left at an index is the element there and what is left behind it
 pub left_at : {X : Type 0} (xs : List X) (i : ℕ) (x : X) → i < length xs → get_or xs i x ≡ x → drop i xs ≡ x ∷ drop (i + 1) xs
 left_at {X} xs i x lt at = drop_more xs i x lt ∙ ap (λ (y : X). y ∷ drop (i + 1) xs) at

@@ -1,9 +1,9 @@
 //! The parts of a module.
-ghost use Rattle.std.specs.Prelude.{◌≡◌, ℕ, List, ◌++◌, IfOk, OnOk};
+ghost use Rattle.std.specs.Prelude.{◌≡◌, ℕ, List, [], ◌∷◌, ◌++◌, IfOk, OnOk};
 ghost use Rattle.std.specs.List.{enumerate_from, flat_map};
 ghost use Rattle.module_graph.specs.Graph.{references_in};
 ghost use Rattle.module_graph.specs.declared.references.Master.{Master as MasterValue};
-ghost use Rattle.module_parts.specs.Parts.{module_parts, parts_of_item};
+ghost use Rattle.module_parts.specs.Parts.{module_parts, name_texts, parts_of_item};
 
 use crate::assignments::{push_declared, push_pairs};
 use crate::gates::push_gates;

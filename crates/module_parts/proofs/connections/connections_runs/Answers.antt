@@ -12,7 +12,7 @@ loop-index-init c =
     let ports = ports_of c.args.tables.now [] c.args.master in
     let at_port = port_runs ports in
     let all = enumerate_from 0 c.args.connections.now in
-    ap (λ (list : List PortRuns). list ++ flat_map (λ connection. map at_port (named_link ports connection)) all) c.new-list.ensures
+    ap (λ (list : List PortRuns). list ++ flat_map (λ connection. map at_port (named_link ports connection)) all) c.new-list.ensures.items
     ∙ sym (map-flat_map at_port (named_link ports) all)
 
 pub loop-index-preserved : goal.loop-index-preserved
@@ -24,7 +24,7 @@ loop-index-preserved c =
     let runs = λ (connection : ℕ × Connection). map at_port (named_link ports connection) in
     ap (λ (list : List PortRuns). list ++ flat_map runs (enumerate_from (index + 1) (drop (index + 1) connections))) c.in_ok-push_connection.ensures
     ∙ seen_more runs connections index c.loop-index.list.items (map at_port (flat_map (named_link ports) (enumerate_from 0 connections))) c.loop-index.invariant
-      c.index-connections-index.result c.loop-index-test.true (sym c.index-connections-index.is)
+    c.index-connections-index.result c.loop-index-test.true (sym c.index-connections-index.is)
 
 pub returns : goal.returns
 returns c =
