@@ -7,7 +7,7 @@ mod runs;
 mod values;
 mod widths;
 
-pub use places::place_runs;
+pub use places::{pick_run, place_runs};
 pub use runs::{BitRun, RunList};
 pub use values::{ValueRuns, value_runs};
-pub use widths::run_width;
+pub use widths::{run_width, runs_width};

@@ -12,7 +12,7 @@ use v_lexer::{Bit, BitList};
 use v_tree::{Expr, Pick};
 
 /// The run of a net or of bits of it.
-fn pick_run(alloc: Global, pick: &Pick) -> Result<BitRun, AllocError>
+pub fn pick_run(alloc: Global, pick: &Pick) -> Result<BitRun, AllocError>
     ensures { IfOk result (λ run. run ≡ pick_run pick.now) }
 {
     let name = Vec::from_slice(alloc, pick.name.text.as_slice())?;

@@ -23,7 +23,7 @@ use Rattle.instance_rules.specs.Walks.{AreFirst, earliest_places, master_at, mas
 use Rattle.instance_rules.proofs.Seeing.{place_of-earliest, place_of-none}
 
 -- what is left of a list tells the element that is next, and what is left behind that
-drop_front : {X : Type 0} (n : ℕ) (xs ys : List X) (x : X) → drop n xs ≡ x ∷ ys → (slice_get xs n ≡ Some x) × (drop (suc n) xs ≡ ys)
+pub drop_front : {X : Type 0} (n : ℕ) (xs ys : List X) (x : X) → drop n xs ≡ x ∷ ys → (slice_get xs n ≡ Some x) × (drop (suc n) xs ≡ ys)
 drop_front zero [] ys x e = absurd cc
 drop_front (suc n) [] ys x e = absurd cc
 drop_front zero (z ∷ zs) ys x e = (cc, cc)

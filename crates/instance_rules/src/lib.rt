@@ -9,5 +9,6 @@ mod modules;
 mod places;
 mod ports;
 
-pub use modules::instance_places;
+pub use modules::{instance_places, master_at};
 pub use places::{ItemPlaces, earliest_places, no_places};
+pub use ports::{named_port, width_at};

@@ -13,8 +13,8 @@ use module_scope::Scope;
 use std::alloc::{AllocError, Global};
 use v_tree::{Instance, Item, Module};
 
-/// The master of the reference at an index.
-fn master_at(references: &[Reference], index: usize) -> Master
+/// The master of the reference at an index, or unknown where there is none.
+pub fn master_at(references: &[Reference], index: usize) -> Master
     ensures { result ≡ master_at references.now index }
 {
     match references.get(index) {

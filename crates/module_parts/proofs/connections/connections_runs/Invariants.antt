@@ -1,0 +1,12 @@
+use Rattle.std.proofs.Common.{◌≡◌, [], ◌++◌, drop, map}
+use Rattle.std.specs.List.{enumerate_from, flat_map}
+use Rattle.instance_rules.specs.Links.{named_link, ports_of}
+use Rattle.module_parts.specs.Parts.{port_runs}
+use Rattle.module_parts.proofs.connections.connections_runs.Given as goal
+
+abbrev pub invariant-loop-index : goal.invariant-loop-index
+invariant-loop-index l =
+    l.list.items
+    ++ flat_map (λ connection. map (port_runs (ports_of l.tables [] l.master)) (named_link (ports_of l.tables [] l.master) connection))
+    (enumerate_from l.index (drop l.index l.connections))
+    ≡ map (port_runs (ports_of l.tables [] l.master)) (flat_map (named_link (ports_of l.tables [] l.master)) (enumerate_from 0 l.connections))

@@ -1,0 +1,5 @@
+//! The tests of `module_parts`.
+#![tactic(auto)]
+
+#[cfg(test)]
+mod tests;
