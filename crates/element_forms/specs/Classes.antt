@@ -8,7 +8,7 @@ use Rattle.module_scope.specs.declared.roles.NetKind.{NetKind as DeclaredKind}
 use Rattle.module_scope.specs.declared.roles.NetKind.TheVariants.{Typed, Trireg as TriregKind}
 use Rattle.flat_net.specs.declared.kinds.NetKind.{NetKind}
 use Rattle.flat_net.specs.declared.kinds.NetKind.TheVariants.{Wire, And, Or, Tri0, Tri1, Supply0, Supply1, Trireg}
-use Rattle.element_forms.specs.declared.classes.NetClass.{NetClass}
+use Rattle.net_islands.specs.declared.parts.NetClass.{NetClass}
 
 abbrev pub type_kind : NetType → NetKind
 type_kind type.Wire = Wire

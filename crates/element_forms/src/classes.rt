@@ -4,14 +4,8 @@ ghost use Rattle.element_forms.specs.Classes.{charge_level, net_class, type_kind
 
 use flat_net::NetKind;
 use module_scope::NetKind as DeclaredKind;
+use net_islands::NetClass;
 use v_tree::{Charge, NetType};
-
-/// The kind of a net, and the level of its charge: 1, 2 or 4 on a trireg, else 0.
-#[derive(Clone, Copy, Debug, PartialEq, Eq)]
-pub struct NetClass {
-    pub kind: NetKind,
-    pub charge: u8,
-}
 
 /// The kind of a net of a type.
 fn type_kind(net_type: NetType) -> NetKind

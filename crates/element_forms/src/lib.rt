@@ -6,6 +6,6 @@ mod classes;
 mod forms;
 mod strengths;
 
-pub use classes::{NetClass, net_class};
+pub use classes::net_class;
 pub use forms::{ElementForm, element_form};
 pub use strengths::{Strengths, drive_strengths, gate_strengths};

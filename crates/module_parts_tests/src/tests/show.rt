@@ -29,10 +29,12 @@ fn show_names(shown: &mut String, names: &NameList) -> Result<(), AllocError> {
 
 fn show_select(shown: &mut String, select: Option<Select>) -> Result<(), AllocError> {
     match select {
-        Some(Select {
-            left,
-            right: Some(right),
-        }) => write!(shown, "[{left}:{right}]")?,
+        Some(
+            Select {
+                left,
+                right: Some(right),
+            },
+        ) => write!(shown, "[{left}:{right}]")?,
         Some(Select { left, right: None }) => write!(shown, "[{left}]")?,
         None => {}
     }
