@@ -107,6 +107,6 @@ static ROWS: [PartsRow; 20] = [
 ];
 
 /// The rows.
-pub fn rows() -> &'static [PartsRow] {
+pub(crate) fn rows() -> &'static [PartsRow] {
     &ROWS
 }

@@ -147,7 +147,7 @@ fn show_part(shown: &mut String, part: &ModulePart) -> Result<(), AllocError> {
 }
 
 /// Parts with blanks between.
-pub fn show_parts(shown: &mut String, parts: &[ModulePart]) -> Result<(), AllocError> {
+pub(crate) fn show_parts(shown: &mut String, parts: &[ModulePart]) -> Result<(), AllocError> {
     for (i, part) in parts.iter().enumerate() {
         if i > 0 {
             shown.push(' ')?;
