@@ -1,0 +1,12 @@
+mod Apart
+mod NameTrees
+mod TreeNames
+mod StepNames
+mod BitNames
+mod Trees
+mod Numbers
+mod Within
+pub mod SoundLaws
+mod Connected
+pub mod CountLaws
+pub mod DepthLaws

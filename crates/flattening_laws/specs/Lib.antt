@@ -1,0 +1,3 @@
+pub mod SoundPlans
+pub mod SoundAdditions
+pub mod Counts
