@@ -1,5 +1,5 @@
 -- How many bits of a module aren't connected in an instance: all but those of the ports that are.
-use Rattle.std.proofs.Common.{◌≡◌, ℕ, zero, suc, ◌+◌, ◌<◌, ◌≤◌, Bool, true, false, List, [], ◌∷◌, ◌++◌, length, map, Option, Some, None, refl, sym, ap, subst, ◌∙◌, arith}
+use Rattle.std.proofs.Common.{◌≡◌, ℕ, zero, suc, ◌+◌, ◌<◌, ◌≤◌, min, Bool, true, false, List, [], ◌∷◌, ◌++◌, length, map, take, Option, Some, None, refl, sym, ap, subst, ◌∙◌, arith}
 use Rattle.std.specs.Prelude.{slice_get, slice_index_or, nat_eq, if◌then◌else◌}
 use Rattle.std.specs.Option.{IsSomeAnd, option_map_or}
 use Rattle.std.specs.List.{AllByRecursion, flat_map, range_with_len, zip}
@@ -111,41 +111,46 @@ free_count (key ∷ keys) count apart within =
 -- ---- the bits of the ports that are connected
 
 abbrev port_bits_at : List PortBits → PortBits → List ℕ
-port_bits_at ports c = option_map_or (λ port. port.bits) (slice_get ports c.port) []
+port_bits_at ports c = option_map_or (λ port. take (length c.bits) port.bits) (slice_get ports c.port) []
 
 abbrev keys_of : List PortBits → List PortBits → List ℕ
 keys_of ports connections = flat_map (port_bits_at ports) connections
+
+take_length : (n : ℕ) (xs : List ℕ) → length (take n xs) ≡ min (length xs) n
+take_length zero xs = omega arith
+take_length (suc n) [] = omega arith
+take_length (suc n) (x ∷ xs) = let rest = take_length n xs in omega arith
 
 keys_count : (ports connections : List PortBits) → length (keys_of ports connections) ≡ connected_count ports connections
 keys_count ports [] = refl
 keys_count ports (c ∷ connections) =
     length_append (port_bits_at ports c) (keys_of ports connections)
     ∙ ap (λ k. k + length (keys_of ports connections)) (by_port (slice_get ports c.port))
-    ∙ ap (λ k. option_map_or (λ port. length port.bits) (slice_get ports c.port) 0 + k) (keys_count ports connections)
+    ∙ ap (λ k. option_map_or (λ port. min (length port.bits) (length c.bits)) (slice_get ports c.port) 0 + k) (keys_count ports connections)
   where
-    by_port : (o : Option PortBits) → length (option_map_or (λ port. port.bits) o []) ≡ option_map_or (λ port. length port.bits) o 0
+    by_port : (o : Option PortBits) → length (option_map_or (λ port. take (length c.bits) port.bits) o []) ≡ option_map_or (λ port. min (length port.bits) (length c.bits)) o 0
     by_port None = refl
-    by_port (Some port) = refl
+    by_port (Some port) = take_length (length c.bits) port.bits
 
-zip_firsts : (xs ys : List ℕ) → length ys ≡ length xs → map first_of (zip xs ys) ≡ xs
-zip_firsts [] ys e = refl
-zip_firsts (x ∷ xs) [] e = absurd (omega arith)
-zip_firsts (x ∷ xs) (y ∷ ys) e = ap (λ zs. x ∷ zs) (zip_firsts xs ys (omega arith))
+zip_firsts : (xs ys : List ℕ) → map first_of (zip xs ys) ≡ take (length ys) xs
+zip_firsts [] [] = refl
+zip_firsts [] (y ∷ ys) = refl
+zip_firsts (x ∷ xs) [] = refl
+zip_firsts (x ∷ xs) (y ∷ ys) = ap (λ zs. x ∷ zs) (zip_firsts xs ys)
 
-port_keys : (bits : ℕ) (numbers : List ℕ) (ports : List PortBits) (c : PortBits) → IsConnection bits ports c → map first_of (port_numbers numbers ports c) ≡ port_bits_at ports c
-port_keys bits numbers ports c is = by_port (slice_get ports c.port) is.0
+port_keys : (numbers : List ℕ) (ports : List PortBits) (c : PortBits) → map first_of (port_numbers numbers ports c) ≡ port_bits_at ports c
+port_keys numbers ports c = by_port (slice_get ports c.port)
   where
-    by_port : (o : Option PortBits) → IsSomeAnd o (λ port. length c.bits ≡ length port.bits)
-        → map first_of (option_map_or (λ port. zip port.bits (numbers_of numbers c.bits)) o []) ≡ option_map_or (λ port. port.bits) o []
-    by_port None same = absurd same
-    by_port (Some port) same = zip_firsts port.bits (numbers_of numbers c.bits) (length_map (λ bit. slice_index_or numbers bit 0) c.bits ∙ same)
+    by_port : (o : Option PortBits) → map first_of (option_map_or (λ port. zip port.bits (numbers_of numbers c.bits)) o []) ≡ option_map_or (λ port. take (length c.bits) port.bits) o []
+    by_port None = refl
+    by_port (Some port) = zip_firsts port.bits (numbers_of numbers c.bits) ∙ ap (λ n. take n port.bits) (length_map (λ bit. slice_index_or numbers bit 0) c.bits)
 
-keys_are : (bits : ℕ) (numbers : List ℕ) (ports connections : List PortBits) → AllByRecursion (IsConnection bits ports) connections → map first_of (bound_numbers numbers ports connections) ≡ keys_of ports connections
-keys_are bits numbers ports [] is = refl
-keys_are bits numbers ports (c ∷ connections) is =
+keys_are : (numbers : List ℕ) (ports connections : List PortBits) → map first_of (bound_numbers numbers ports connections) ≡ keys_of ports connections
+keys_are numbers ports [] = refl
+keys_are numbers ports (c ∷ connections) =
     map_append first_of (port_numbers numbers ports c) (bound_numbers numbers ports connections)
-    ∙ ap (λ xs. xs ++ map first_of (bound_numbers numbers ports connections)) (port_keys bits numbers ports c is.0)
-    ∙ ap (λ xs. port_bits_at ports c ++ xs) (keys_are bits numbers ports connections is.1)
+    ∙ ap (λ xs. xs ++ map first_of (bound_numbers numbers ports connections)) (port_keys numbers ports c)
+    ∙ ap (λ xs. port_bits_at ports c ++ xs) (keys_are numbers ports connections)
 
 -- ---- they differ
 
@@ -175,9 +180,21 @@ module _ (P : ℕ → Type 0) where
       rest [] ys h = h
       rest (x ∷ xs) ys h = rest xs ys h.1
 
+  each_take : (n : ℕ) (xs : List ℕ) → AllByRecursion P xs → AllByRecursion P (take n xs)
+  each_take zero xs h = tt
+  each_take (suc n) [] h = tt
+  each_take (suc n) (x ∷ xs) h = (h.0, each_take n xs h.1)
+
+  each_taken : (ports : List PortBits) (c : PortBits) → AllByRecursion P (option_map_or (λ port. port.bits) (slice_get ports c.port) []) → AllByRecursion P (port_bits_at ports c)
+  each_taken ports c h = by_port (slice_get ports c.port) h
+    where
+      by_port : (o : Option PortBits) → AllByRecursion P (option_map_or (λ port. port.bits) o []) → AllByRecursion P (option_map_or (λ port. take (length c.bits) port.bits) o [])
+      by_port None h = tt
+      by_port (Some port) h = each_take (length c.bits) port.bits h
+
   each_key : (ports connections : List PortBits) → AllByRecursion P (ports_bits ports) → AllByRecursion P (keys_of ports connections)
   each_key ports [] h = tt
-  each_key ports (c ∷ connections) h = each_append P (port_bits_at ports c) (keys_of ports connections) (each_port ports c.port h) (each_key ports connections h)
+  each_key ports (c ∷ connections) h = each_append P (port_bits_at ports c) (keys_of ports connections) (each_taken ports c (each_port ports c.port h)) (each_key ports connections h)
 
 abbrev bits_at : List PortBits → ℕ → List ℕ
 bits_at ports index = option_map_or (λ port. port.bits) (slice_get ports index) []
@@ -218,26 +235,41 @@ port_apart [] index h = tt
 port_apart (port ∷ ports) zero h = (apart_parts port.bits (ports_bits ports) h).0
 port_apart (port ∷ ports) (suc index) h = port_apart ports index (apart_parts port.bits (ports_bits ports) h).1.0
 
+taken_from : (ports : List PortBits) (c : PortBits) (xs : List ℕ) → AreFrom xs (bits_at ports c.port) → AreFrom xs (port_bits_at ports c)
+taken_from ports c xs h = each_weaker (λ x. AllByRecursion (Differ x) (bits_at ports c.port)) (λ x. AllByRecursion (Differ x) (port_bits_at ports c)) xs (λ x d. each_taken (Differ x) ports c d) h
+
+taken_apart : (ports : List PortBits) (c : PortBits) → AreApart (bits_at ports c.port) → AreApart (port_bits_at ports c)
+taken_apart ports c h = by_port (slice_get ports c.port) h
+  where
+    front : (n : ℕ) (xs : List ℕ) → AreApart xs → AreApart (take n xs)
+    front zero xs h = tt
+    front (suc n) [] h = tt
+    front (suc n) (x ∷ xs) h = (each_take (Differ x) n xs h.0, front n xs h.1)
+
+    by_port : (o : Option PortBits) → AreApart (option_map_or (λ port. port.bits) o []) → AreApart (option_map_or (λ port. take (length c.bits) port.bits) o [])
+    by_port None h = tt
+    by_port (Some port) h = front (length c.bits) port.bits h
+
 key_from : (ports connections : List PortBits) (p : ℕ) → AreApart (ports_bits ports) → AllByRecursion (Differ p) (map (λ c. c.port) connections) → AreFrom (bits_at ports p) (keys_of ports connections)
 key_from ports [] p h d = from_none (bits_at ports p)
 key_from ports (c ∷ connections) p h d =
-    from_append (bits_at ports p) (bits_at ports c.port) (keys_of ports connections) (ports_from ports p c.port h d.0) (key_from ports connections p h d.1)
+    from_append (bits_at ports p) (port_bits_at ports c) (keys_of ports connections) (taken_from ports c (bits_at ports p) (ports_from ports p c.port h d.0)) (key_from ports connections p h d.1)
 
 keys_apart : (ports connections : List PortBits) → AreApart (ports_bits ports) → AreApart (map (λ c. c.port) connections) → AreApart (keys_of ports connections)
 keys_apart ports [] h once = tt
 keys_apart ports (c ∷ connections) h once =
-    apart_append (bits_at ports c.port) (keys_of ports connections) (port_apart ports c.port h) (keys_apart ports connections h once.1) (key_from ports connections c.port h once.0)
+    apart_append (port_bits_at ports c) (keys_of ports connections) (taken_apart ports c (port_apart ports c.port h)) (keys_apart ports connections h once.1)
+    (each_taken (λ x. AllByRecursion (Differ x) (keys_of ports connections)) ports c (key_from ports connections c.port h once.0))
 
 -- the bits that aren't connected, with those that are, are all
-pub unbound_count : (bits count : ℕ) (numbers : List ℕ) (ports connections : List PortBits)
-    → AllByRecursion (IsConnection bits ports) connections → AreApart (map (λ c. c.port) connections)
+pub unbound_count : (count : ℕ) (numbers : List ℕ) (ports connections : List PortBits) → AreApart (map (λ c. c.port) connections)
     → AreApart (ports_bits ports) → AllByRecursion (λ bit. bit < count) (ports_bits ports)
     → unbound (bound_numbers numbers ports connections) (range_with_len 0 count) + connected_count ports connections ≡ count
-unbound_count bits count numbers ports connections is once apart within =
+unbound_count count numbers ports connections once apart within =
     let keys = keys_of ports connections in
     let free_are : unbound (bound_numbers numbers ports connections) (range_with_len 0 count) ≡ free keys (range_with_len 0 count)
         = unbound_is_free (bound_numbers numbers ports connections) (range_with_len 0 count)
-        ∙ ap (λ ks. free ks (range_with_len 0 count)) (keys_are bits numbers ports connections is) in
+        ∙ ap (λ ks. free ks (range_with_len 0 count)) (keys_are numbers ports connections) in
     let counted = free_count keys count (keys_apart ports connections apart once) (each_key (λ bit. bit < count) ports connections within) in
     let many = keys_count ports connections in
     omega arith

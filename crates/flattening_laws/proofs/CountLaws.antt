@@ -92,12 +92,12 @@ module _ (h : Hierarchy) where
   unfolding additions inside
   elements_count zero master path outside next =
       let at = place_of h master path outside next in
-      let then = next + length (nets_additions h at (plan_at h master).nets).net_names in
+      let then = next + length (nets_additions h at (plan_at h master)).net_names in
       steps_elements (additions h zero) at (λ i. 0) (λ i n. refl) then (plan_at h master).steps
       ∙ ap (λ n. length (element_list (plan_at h master).steps) + n) (sum_zero (instance_list (plan_at h master).steps))
   elements_count (suc levels) master path outside next =
       let at = place_of h master path outside next in
-      let then = next + length (nets_additions h at (plan_at h master).nets).net_names in
+      let then = next + length (nets_additions h at (plan_at h master)).net_names in
       let f = λ (i : PlanInstance). instance_own Elements (all_module_counts h.plans) (instance_counts h.plans i) + inside Elements (all_module_counts h.plans) (all_instance_counts h.plans) levels i.master in
       steps_elements (additions h (suc levels)) at f
       (λ i n. elements_count levels i.master (at.path ++ Written i.name ∷ []) (bound_numbers at.numbers (plan_at h i.master).ports i.connections) n
@@ -106,26 +106,18 @@ module _ (h : Hierarchy) where
 
   -- ---- nets
 
-  module _ (udps : List Primitive) (sound : (master : ℕ) → IsSoundPlan udps h.plans (plan_at h master)) where
+  module _ (udps : List Primitive) (sound : (master : ℕ) → IsSoundPlan udps (plan_at h master)) where
     -- the nets that an instance adds by itself are those that its counts give
-    instance_nets : (bits : ℕ) (numbers : List ℕ) (i : PlanInstance) → IsPlanInstance h.plans bits i
+    instance_nets : (bits : ℕ) (numbers : List ℕ) (i : PlanInstance) → IsPlanInstance bits i
         → unbound (bound_numbers numbers (plan_at h i.master).ports i.connections) (range_with_len 0 (bit_count (plan_at h i.master).nets))
           ≡ instance_own Nets (all_module_counts h.plans) (instance_counts h.plans i)
     instance_nets bits numbers i is =
         let inner = plan_at h i.master in
         let of = sound i.master in
-        let whole = unbound_count bits (bit_count inner.nets) numbers inner.ports i.connections (connections_of is.connections)
+        let whole = unbound_count (bit_count inner.nets) numbers inner.ports i.connections
             (apart_distinct (map (λ c. c.port) i.connections) is.once) (apart_distinct (ports_bits inner.ports) of.apart) (each_from_All (λ bit. bit < bit_count inner.nets) (ports_bits inner.ports) of.ports) in
         let own : (module_at (all_module_counts h.plans) i.master).nets ≡ bit_count inner.nets = ap (λ (m : ModuleCounts). m.nets) (module_is i.master) in
         omega arith
-      where
-        by_plan : (plans : List ModulePlan) (master : ℕ) → IsSomeAnd (slice_get plans master) (λ inner. All (IsConnection bits inner.ports) i.connections) → All (IsConnection bits (slice_index_or plans master no_plan).ports) i.connections
-        by_plan [] master none = absurd none
-        by_plan (p ∷ plans) zero is = is
-        by_plan (p ∷ plans) (suc master) is = by_plan plans master is
-
-        connections_of : IsSomeAnd (slice_get h.plans i.master) (λ inner. All (IsConnection bits inner.ports) i.connections) → AllByRecursion (IsConnection bits (plan_at h i.master).ports) i.connections
-        connections_of is = each_from_All (IsConnection bits (plan_at h i.master).ports) i.connections (by_plan h.plans i.master is)
 
     nets_count : (levels master : ℕ) (path : List Own) (outside : List (ℕ × ℕ)) (next : ℕ)
         → length (additions h (suc levels) master path outside next).net_names
@@ -134,26 +126,26 @@ module _ (h : Hierarchy) where
     nets_count zero master path outside next =
         let at = place_of h master path outside next in
         let plan = plan_at h master in
-        let own_names = (nets_additions h at plan.nets).net_names in
+        let own_names = (nets_additions h at plan).net_names in
         let then = next + length own_names in
         length_append own_names (steps_additions (additions h zero) h at then plan.steps).net_names
         ∙ ap (λ n. n + length (steps_additions (additions h zero) h at then plan.steps).net_names) (own_nets h master path outside next (sound master).row)
         ∙ ap (λ n. unbound outside (range_with_len 0 (bit_count plan.nets)) + n)
-          (steps_nets (IsPlanStep udps h.plans (bit_count plan.nets)) (additions h zero) at (λ i. 0) (λ i n is. refl) then plan.steps (each_from_All (IsPlanStep udps h.plans (bit_count plan.nets)) plan.steps (sound master).steps)
+          (steps_nets (IsPlanStep udps (bit_count plan.nets)) (additions h zero) at (λ i. 0) (λ i n is. refl) then plan.steps (each_from_All (IsPlanStep udps (bit_count plan.nets)) plan.steps (sound master).steps)
           ∙ sum_zero (instance_list plan.steps))
     nets_count (suc levels) master path outside next =
         let at = place_of h master path outside next in
         let plan = plan_at h master in
-        let own_names = (nets_additions h at plan.nets).net_names in
+        let own_names = (nets_additions h at plan).net_names in
         let then = next + length own_names in
         let f = λ (i : PlanInstance). instance_own Nets (all_module_counts h.plans) (instance_counts h.plans i) + inside Nets (all_module_counts h.plans) (all_instance_counts h.plans) levels i.master in
         length_append own_names (steps_additions (additions h (suc levels)) h at then plan.steps).net_names
         ∙ ap (λ n. n + length (steps_additions (additions h (suc levels)) h at then plan.steps).net_names) (own_nets h master path outside next (sound master).row)
         ∙ ap (λ n. unbound outside (range_with_len 0 (bit_count plan.nets)) + n)
-          (steps_nets (IsPlanStep udps h.plans (bit_count plan.nets)) (additions h (suc levels)) at f
+          (steps_nets (IsPlanStep udps (bit_count plan.nets)) (additions h (suc levels)) at f
           (λ i n is. nets_count levels i.master (at.path ++ Written i.name ∷ []) (bound_numbers at.numbers (plan_at h i.master).ports i.connections) n
             ∙ ap (λ k. k + inside Nets (all_module_counts h.plans) (all_instance_counts h.plans) levels i.master) (instance_nets (bit_count plan.nets) at.numbers i is)) then plan.steps
-          (each_from_All (IsPlanStep udps h.plans (bit_count plan.nets)) plan.steps (sound master).steps)
+          (each_from_All (IsPlanStep udps (bit_count plan.nets)) plan.steps (sound master).steps)
           ∙ sym (inside_is Nets levels master))
 
 -- ---- the laws
@@ -167,11 +159,11 @@ flattening-elements h top =
     elements_count h 63 top [] [] 0
     ∙ ap (λ (m : ModuleCounts). m.elements + inside Elements (all_module_counts h.plans) (all_instance_counts h.plans) 63 top) (sym (module_is h top))
 
-pub flattening-nets : (udps : List Primitive) (h : Hierarchy) → All (IsSoundPlan udps h.plans) h.plans → (top : ℕ)
+pub flattening-nets : (udps : List Primitive) (h : Hierarchy) → All (IsSoundPlan udps) h.plans → (top : ℕ)
     → length (flattening h top).net_names ≡ whole Nets (all_module_counts h.plans) (all_instance_counts h.plans) 63 top
 flattening-nets udps h plans top =
-    let sound : (master : ℕ) → IsSoundPlan udps h.plans (plan_at h master)
-        = λ master. plan_is (IsSoundPlan udps h.plans) h.plans master (none_sound udps h.plans) (each_from_All (IsSoundPlan udps h.plans) h.plans plans) in
+    let sound : (master : ℕ) → IsSoundPlan udps (plan_at h master)
+        = λ master. plan_is (IsSoundPlan udps) h.plans master (none_sound udps) (each_from_All (IsSoundPlan udps) h.plans plans) in
     nets_count h udps sound 63 top [] [] 0
     ∙ ap (λ n. n + inside Nets (all_module_counts h.plans) (all_instance_counts h.plans) 63 top)
       (unbound_all (range_with_len 0 (bit_count (plan_at h top).nets)) ∙ length_range 0 (bit_count (plan_at h top).nets) ∙ sym (ap (λ (m : ModuleCounts). m.nets) (module_is h top)))

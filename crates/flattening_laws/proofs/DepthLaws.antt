@@ -57,7 +57,7 @@ module _ (h : Hierarchy) where
   additions-whole (suc levels) more master path outside next few =
       let at = place_of h master path outside next in
       let plan = plan_at h master in
-      let own = nets_additions h at plan.nets in
+      let own = nets_additions h at plan in
       let then = next + length own.net_names in
       let one_more : suc levels + more ≡ suc (levels + more) = omega arith in
       ap (λ n. additions h n master path outside next) one_more

@@ -1,4 +1,4 @@
-mod Apart
+pub mod Apart
 mod NameTrees
 mod TreeNames
 mod StepNames
@@ -10,3 +10,4 @@ pub mod SoundLaws
 mod Connected
 pub mod CountLaws
 pub mod DepthLaws
+pub mod EndLaws

@@ -40,7 +40,7 @@ module _ (mine : List Bool → ModulePlan → List FlatName) (of : PlanElement �
       let at = place_of h master path outside next in
       let plan = plan_at h master in
       mine at.bound plan
-      ++ steps_tree (name_tree levels) (additions h levels) at (next + length (nets_additions h at plan.nets).net_names) plan.steps
+      ++ steps_tree (name_tree levels) (additions h levels) at (next + length (nets_additions h at plan).net_names) plan.steps
 
   -- ---- what holds of all names of a step, whatever the instances have
 
@@ -123,7 +123,7 @@ module _ (mine : List Bool → ModulePlan → List FlatName) (of : PlanElement �
   tree_apart plans (suc levels) master path outside next =
       let at = place_of h master path outside next in
       let plan = plan_at h master in
-      let then = next + length (nets_additions h at plan.nets).net_names in
+      let then = next + length (nets_additions h at plan).net_names in
       let is = plans master in
       apart_append (mine at.bound plan) (steps_tree (name_tree levels) (additions h levels) at then plan.steps)
       (is.mine_apart at.bound)
@@ -172,7 +172,7 @@ module _ (mine : List Bool → ModulePlan → List FlatName) (of : PlanElement �
   tree_named plans (suc levels) master path outside next =
       let at = place_of h master path outside next in
       let plan = plan_at h master in
-      let then = next + length (nets_additions h at plan.nets).net_names in
+      let then = next + length (nets_additions h at plan).net_names in
       each_append IsFlatName (mine at.bound plan) (steps_tree (name_tree levels) (additions h levels) at then plan.steps)
       ((plans master).mine_named at.bound)
       (steps_named (name_tree levels) (additions h levels) at then plan.steps (tree_named plans levels) (plans master).steps)

@@ -130,5 +130,5 @@ module _ (h : Hierarchy) (master : ℕ) (path : List Own) (outside : List (ℕ �
 
   -- an instance adds a net for each bit that isn't connected outside
   pub own_nets : AreInRow 0 (plan_at h master).nets
-      → length (nets_additions h (place_of h master path outside next) (plan_at h master).nets).net_names ≡ unbound outside (range_with_len 0 (bit_count (plan_at h master).nets))
+      → length (nets_additions h (place_of h master path outside next) (plan_at h master)).net_names ≡ unbound outside (range_with_len 0 (bit_count (plan_at h master).nets))
   own_nets row = new_counts (plan_at h master).nets 0 row (omega arith)

@@ -12,7 +12,7 @@ use Rattle.netlist_plan.specs.declared.plan.PlanStep.TheVariants.{Element as Ele
 use Rattle.netlist_plan.specs.declared.plan.ModulePlan.{ModulePlan}
 use Rattle.netlist_plan.specs.Additions.{Additions, joined}
 use Rattle.netlist_plan.specs.Flattening.{Hierarchy, Inner, Place, additions, bit_count, bound_numbers, flattening, nets_additions, no_plan, place_of, plan_at, step_additions, steps_additions}
-use Rattle.flattening_laws.specs.SoundPlans.{IsPlanNet, IsPlanStep, IsSoundPlan}
+use Rattle.flattening_laws.specs.SoundPlans.{HasTerminals, IsPlanNet, IsPlanStep, IsSoundPlan}
 use Rattle.flattening_laws.specs.SoundAdditions.{AreSoundAdditions, IsClaim}
 use Rattle.flattening_laws.proofs.Apart.{AreApart, All_from_each, apart_distinct, apart_map_of, distinct_apart, each_from_All, each_map, each_weaker}
 use Rattle.flattening_laws.proofs.NameTrees.{IsPlanApart, IsPlanNamed, StepNamed, name_tree, spelled, tree_apart, tree_named}
@@ -24,16 +24,18 @@ use Rattle.flattening_laws.proofs.Within.{additions_within, plan_is}
 
 -- ---- no plan is sound
 
-pub none_sound : (udps : List Primitive) (plans : List ModulePlan) → IsSoundPlan udps plans no_plan
-none_sound udps plans = record {
+pub none_sound : (udps : List Primitive) → IsSoundPlan udps no_plan
+none_sound udps = record {
   row = tt;
   nets = All_from_each IsPlanNet [] tt;
   net_names = distinct_apart [] tt;
   ports = All_from_each (λ bit. bit < 0) [] tt;
   apart = distinct_apart [] tt;
-  steps = All_from_each (IsPlanStep udps plans 0) [] tt;
+  steps = All_from_each (IsPlanStep udps 0) [] tt;
   step_names = distinct_apart [] tt;
   halves = λ i j own on_one e f. cc;
+  terminals = All_from_each (λ terminal. terminal.bit < 0) [] tt;
+  ends = All_from_each (HasTerminals []) [] tt;
 }
 
 -- ---- names
@@ -47,20 +49,20 @@ names_sound tree names same named apart =
       subst (λ (ns : List (List ℕ)). AreDistinct ns) (sym same) (distinct_apart (map spelling tree) differ),
     )
 
-module _ (udps : List Primitive) (h : Hierarchy) (sound : (master : ℕ) → IsSoundPlan udps h.plans (plan_at h master)) where
-  step_texts : (bits : ℕ) (s : PlanStep) → IsPlanStep udps h.plans bits s → StepNamed no_records no_names h s
+module _ (udps : List Primitive) (h : Hierarchy) (sound : (master : ℕ) → IsSoundPlan udps (plan_at h master)) where
+  step_texts : (bits : ℕ) (s : PlanStep) → IsPlanStep udps bits s → StepNamed no_records no_names h s
   step_texts bits (ElementStep e) is = tt
   step_texts bits (InstanceStep i) is = is.name
 
-  net_step_texts : (bits : ℕ) (s : PlanStep) → IsPlanStep udps h.plans bits s → StepNamed net_records no_names h s
+  net_step_texts : (bits : ℕ) (s : PlanStep) → IsPlanStep udps bits s → StepNamed net_records no_names h s
   net_step_texts bits (ElementStep e) is = tt
   net_step_texts bits (InstanceStep i) is = is.name
 
-  find_step_texts : (bits : ℕ) (s : PlanStep) → IsPlanStep udps h.plans bits s → StepNamed find_records no_names h s
+  find_step_texts : (bits : ℕ) (s : PlanStep) → IsPlanStep udps bits s → StepNamed find_records no_names h s
   find_step_texts bits (ElementStep e) is = tt
   find_step_texts bits (InstanceStep i) is = is.name
 
-  element_step_texts : (bits : ℕ) (s : PlanStep) → IsPlanStep udps h.plans bits s → StepNamed no_records element_names h s
+  element_step_texts : (bits : ℕ) (s : PlanStep) → IsPlanStep udps bits s → StepNamed no_records element_names h s
   element_step_texts bits (ElementStep e) is = (element_named e.name is.name, tt)
   element_step_texts bits (InstanceStep i) is = is.name
 
@@ -80,7 +82,7 @@ module _ (udps : List Primitive) (h : Hierarchy) (sound : (master : ℕ) → IsS
       let is = sound master in
       record {
         mine_named = λ bound. net_records_named bound plan (each_from_All IsPlanNet plan.nets is.nets);
-        steps = each_weaker (IsPlanStep udps h.plans (bit_count plan.nets)) (StepNamed net_records no_names h) plan.steps (net_step_texts (bit_count plan.nets)) (each_from_All (IsPlanStep udps h.plans (bit_count plan.nets)) plan.steps is.steps);
+        steps = each_weaker (IsPlanStep udps (bit_count plan.nets)) (StepNamed net_records no_names h) plan.steps (net_step_texts (bit_count plan.nets)) (each_from_All (IsPlanStep udps (bit_count plan.nets)) plan.steps is.steps);
       }
 
   find_plans_apart : (master : ℕ) → IsPlanApart find_records no_names h (plan_at h master)
@@ -99,7 +101,7 @@ module _ (udps : List Primitive) (h : Hierarchy) (sound : (master : ℕ) → IsS
       let is = sound master in
       record {
         mine_named = λ bound. find_records_named bound plan (each_from_All IsPlanNet plan.nets is.nets);
-        steps = each_weaker (IsPlanStep udps h.plans (bit_count plan.nets)) (StepNamed find_records no_names h) plan.steps (find_step_texts (bit_count plan.nets)) (each_from_All (IsPlanStep udps h.plans (bit_count plan.nets)) plan.steps is.steps);
+        steps = each_weaker (IsPlanStep udps (bit_count plan.nets)) (StepNamed find_records no_names h) plan.steps (find_step_texts (bit_count plan.nets)) (each_from_All (IsPlanStep udps (bit_count plan.nets)) plan.steps is.steps);
       }
 
   element_plans_apart : (master : ℕ) → IsPlanApart no_records element_names h (plan_at h master)
@@ -118,44 +120,50 @@ module _ (udps : List Primitive) (h : Hierarchy) (sound : (master : ℕ) → IsS
       let is = sound master in
       record {
         mine_named = λ bound. tt;
-        steps = each_weaker (IsPlanStep udps h.plans (bit_count plan.nets)) (StepNamed no_records element_names h) plan.steps (element_step_texts (bit_count plan.nets)) (each_from_All (IsPlanStep udps h.plans (bit_count plan.nets)) plan.steps is.steps);
+        steps = each_weaker (IsPlanStep udps (bit_count plan.nets)) (StepNamed no_records element_names h) plan.steps (element_step_texts (bit_count plan.nets)) (each_from_All (IsPlanStep udps (bit_count plan.nets)) plan.steps is.steps);
       }
 
-  -- ---- each element has a name
+  -- ---- each element has a name, and is resistive or not
 
-  abbrev NamesEach : Inner → Type 0
-  NamesEach inner = (master : ℕ) (path : List Own) (outside : List (ℕ × ℕ)) (next : ℕ) → length (inner master path outside next).element_names ≡ length (inner master path outside next).elements
+  abbrev AreEach : Additions → Type 0
+  AreEach a = (length a.element_names ≡ length a.elements) × (length a.resistive ≡ length a.elements)
 
-  joined_each : (a b : Additions) → length a.element_names ≡ length a.elements → length b.element_names ≡ length b.elements → length (joined a b).element_names ≡ length (joined a b).elements
+  abbrev KeepsEach : Inner → Type 0
+  KeepsEach inner = (master : ℕ) (path : List Own) (outside : List (ℕ × ℕ)) (next : ℕ) → AreEach (inner master path outside next)
+
+  joined_each : (a b : Additions) → AreEach a → AreEach b → AreEach (joined a b)
   joined_each a b e f =
       let names = length_append a.element_names b.element_names in
+      let resistive = length_append a.resistive b.resistive in
       let elements = length_append a.elements b.elements in
-      omega arith
+      (omega (arith, e.0, f.0), omega (arith, e.1, f.1))
 
-  steps_named_each : (inner : Inner) (at : Place) (next : ℕ) (ss : List PlanStep) → NamesEach inner → length (steps_additions inner h at next ss).element_names ≡ length (steps_additions inner h at next ss).elements
-  steps_named_each inner at next [] each = refl
-  steps_named_each inner at next (ElementStep e ∷ ss) each = ap suc (steps_named_each inner at (next + 0) ss each)
-  steps_named_each inner at next (InstanceStep i ∷ ss) each =
+  steps_each : (inner : Inner) (at : Place) (next : ℕ) (ss : List PlanStep) → KeepsEach inner → AreEach (steps_additions inner h at next ss)
+  steps_each inner at next [] each = (refl, refl)
+  steps_each inner at next (ElementStep e ∷ ss) each =
+      let rest = steps_each inner at (next + 0) ss each in
+      (ap suc rest.0, ap suc rest.1)
+  steps_each inner at next (InstanceStep i ∷ ss) each =
       let first = step_additions inner h at next (InstanceStep i) in
       let then = next + length first.net_names in
       joined_each first (steps_additions inner h at then ss)
       (each i.master (at.path ++ Written i.name ∷ []) (bound_numbers at.numbers (plan_at h i.master).ports i.connections) next)
-      (steps_named_each inner at then ss each)
+      (steps_each inner at then ss each)
 
-  names_each : (levels : ℕ) → NamesEach (additions h levels)
+  additions_each : (levels : ℕ) → KeepsEach (additions h levels)
   unfolding additions
-  names_each zero master path outside next = refl
-  names_each (suc levels) master path outside next =
+  additions_each zero master path outside next = (refl, refl)
+  additions_each (suc levels) master path outside next =
       let at = place_of h master path outside next in
-      let own = nets_additions h at (plan_at h master).nets in
-      steps_named_each (additions h levels) at (next + length own.net_names) (plan_at h master).steps (names_each levels)
+      let own = nets_additions h at (plan_at h master) in
+      steps_each (additions h levels) at (next + length own.net_names) (plan_at h master).steps (additions_each levels)
 
 -- ---- the law
 
-pub additions-sound : (udps : List Primitive) (h : Hierarchy) → All (IsSoundPlan udps h.plans) h.plans → (levels top : ℕ) → AreSoundAdditions udps (additions h levels top [] [] 0)
+pub additions-sound : (udps : List Primitive) (h : Hierarchy) → All (IsSoundPlan udps) h.plans → (levels top : ℕ) → AreSoundAdditions udps (additions h levels top [] [] 0)
 additions-sound udps h plans levels top =
-    let sound : (master : ℕ) → IsSoundPlan udps h.plans (plan_at h master)
-        = λ master. plan_is (IsSoundPlan udps h.plans) h.plans master (none_sound udps h.plans) (each_from_All (IsSoundPlan udps h.plans) h.plans plans) in
+    let sound : (master : ℕ) → IsSoundPlan udps (plan_at h master)
+        = λ master. plan_is (IsSoundPlan udps) h.plans master (none_sound udps) (each_from_All (IsSoundPlan udps) h.plans plans) in
     let a = additions h levels top [] [] 0 in
     let n = length a.net_names in
     let within = additions_within udps h sound levels top [] [] 0 tt in
@@ -172,15 +180,17 @@ additions-sound udps h plans levels top =
         (tree_agrees find_records no_names h (λ x. map (λ found. found.name) x.finds) (find_list h) levels top [] [] 0)
         (tree_named find_records no_names h (find_plans_named udps h sound) levels top [] [] 0)
         (tree_apart find_records no_names h (find_plans_apart udps h sound) levels top [] [] 0) in
+    let each = additions_each udps h sound levels top [] [] 0 in
     record {
       net_names = record { all = refl; ascii = nets.0; distinct = nets.1 };
       claims = All_from_each (IsClaim n) a.claims (subst (λ k. AllByRecursion (IsClaim k) a.claims) count within.claims);
       elements = All_from_each (IsElement n udps) a.elements (subst (λ k. AllByRecursion (IsElement k udps) a.elements) count within.elements);
-      element_names = record { all = names_each udps h sound levels top [] [] 0; ascii = elements.0; distinct = elements.1 };
+      element_names = record { all = each.0; ascii = elements.0; distinct = elements.1 };
+      resistive = each.1;
       finds = All_from_each (IsFind n) a.finds (subst (λ k. AllByRecursion (IsFind k) a.finds) count within.finds);
       find_names = record { all = length_map (λ found. found.name) a.finds; ascii = finds.0; distinct = finds.1 };
     }
 
 -- a flattening of sound plans is sound
-pub flattening-sound : (udps : List Primitive) (h : Hierarchy) → All (IsSoundPlan udps h.plans) h.plans → (top : ℕ) → AreSoundAdditions udps (flattening h top)
+pub flattening-sound : (udps : List Primitive) (h : Hierarchy) → All (IsSoundPlan udps) h.plans → (top : ℕ) → AreSoundAdditions udps (flattening h top)
 flattening-sound udps h plans top = additions-sound udps h plans 64 top

@@ -26,7 +26,7 @@ spelled_insides path part (n ∷ ns) =
 pub record IsListOf (mine : List Bool → ModulePlan → List FlatName) (of : PlanElement → List FlatName) (h : Hierarchy) (pick : Additions → List (List ℕ)) : Type 0 where
   pub none : pick nothing ≡ []
   pub both : (a b : Additions) → pick (joined a b) ≡ pick a ++ pick b
-  pub nets : (at : Place) (plan : ModulePlan) → pick (nets_additions h at plan.nets) ≡ map (spelled at.path) (mine at.bound plan)
+  pub nets : (at : Place) (plan : ModulePlan) → pick (nets_additions h at plan) ≡ map (spelled at.path) (mine at.bound plan)
   pub element : (at : Place) (e : PlanElement) → pick (element_additions h at e) ≡ map (spelled at.path) (of e)
 
 module _ (mine : List Bool → ModulePlan → List FlatName) (of : PlanElement → List FlatName) (h : Hierarchy) (pick : Additions → List (List ℕ)) (is : IsListOf mine of h pick) where
@@ -58,7 +58,7 @@ module _ (mine : List Bool → ModulePlan → List FlatName) (of : PlanElement �
   tree_agrees (suc levels) master path outside next =
       let at = place_of h master path outside next in
       let plan = plan_at h master in
-      let own = nets_additions h at plan.nets in
+      let own = nets_additions h at plan in
       let then = next + length own.net_names in
       let rest = steps_additions (additions h levels) h at then plan.steps in
       is.both own rest

@@ -3,6 +3,7 @@ use Rattle.std.proofs.Common.{◌≡◌, ℕ, zero, suc, ◌+◌, ◌<◌, ◌�
 use Rattle.std.specs.Prelude.{slice_get, slice_index_or}
 use Rattle.std.specs.Option.{IsSomeAnd, is_some, option_map, option_map_or}
 use Rattle.std.specs.List.{All, AllByRecursion, flat_map, zip}
+use Rattle.v_tree.specs.declared.locations.Location.{Location}
 use Rattle.v_tree.specs.declared.expressions.RangeBounds.{RangeBounds}
 use Rattle.udp_table.specs.Primitive.{Primitive}
 use Rattle.flat_net.specs.declared.parts.Element.{Element}
@@ -19,9 +20,10 @@ use Rattle.netlist_plan.specs.declared.plan.PlanNet.{PlanNet}
 use Rattle.netlist_plan.specs.declared.plan.PlanStep.{PlanStep}
 use Rattle.netlist_plan.specs.declared.plan.PlanStep.TheVariants.{Element as ElementStep, Instance as InstanceStep}
 use Rattle.netlist_plan.specs.declared.plan.PortBits.{PortBits}
+use Rattle.netlist_plan.specs.declared.plan.SwitchTerminal.{SwitchTerminal}
 use Rattle.netlist_plan.specs.declared.plan.ModulePlan.{ModulePlan}
 use Rattle.netlist_plan.specs.Additions.{Additions, joined, nothing}
-use Rattle.netlist_plan.specs.Flattening.{Hierarchy, Inner, Place, additions, bit_count, bit_find, bit_finds, bound_numbers, end_numbers, flat_element, net_claim, net_claims, net_finds, net_places, nets_additions, no_plan, numbers_of, place_of, plan_at, port_numbers, step_additions, steps_additions}
+use Rattle.netlist_plan.specs.Flattening.{Hierarchy, Inner, Place, additions, bit_count, bit_find, bit_finds, bound_numbers, end_numbers, flat_element, net_claim, net_claims, net_finds, net_places, nets_additions, no_plan, numbers_of, place_of, plan_at, port_numbers, step_additions, steps_additions, terminal_number}
 use Rattle.flattening_laws.specs.SoundPlans.{AreInRow, IsConnection, IsPlanElement, IsPlanInstance, IsPlanNet, IsPlanStep, IsSoundPlan}
 use Rattle.flattening_laws.proofs.Apart.{All_from_each, each_append, each_flat_map, each_from_All, each_map, each_weaker}
 use Rattle.flattening_laws.proofs.BitNames.{each_range}
@@ -33,16 +35,18 @@ pub record IsWithin (udps : List Primitive) (n : ℕ) (a : Additions) : Type 0 w
   pub claims : AllByRecursion (λ (c : ℕ × NetClaim). (c.0 < n) × HasCharge c.1.class.kind c.1.class.charge) a.claims
   pub elements : AllByRecursion (IsElement n udps) a.elements
   pub finds : AllByRecursion (IsFind n) a.finds
+  pub terminals : AllByRecursion (λ (t : ℕ × Location). t.0 < n) a.terminals
 
 module _ (udps : List Primitive) where
   within_nothing : (n : ℕ) → IsWithin udps n nothing
-  within_nothing n = record { claims = tt; elements = tt; finds = tt }
+  within_nothing n = record { claims = tt; elements = tt; finds = tt; terminals = tt }
 
   within_joined : (n : ℕ) (a b : Additions) → IsWithin udps n a → IsWithin udps n b → IsWithin udps n (joined a b)
   within_joined n a b h k = record {
     claims = each_append (λ (c : ℕ × NetClaim). (c.0 < n) × HasCharge c.1.class.kind c.1.class.charge) a.claims b.claims h.claims k.claims;
     elements = each_append (IsElement n udps) a.elements b.elements h.elements k.elements;
     finds = each_append (IsFind n) a.finds b.finds h.finds k.finds;
+    terminals = each_append (λ (t : ℕ × Location). t.0 < n) a.terminals b.terminals h.terminals k.terminals;
   }
 
   all_more : (n m : ℕ) (nets : List ℕ) → n ≤ m → All (λ net. net < n) nets → All (λ net. net < m) nets
@@ -65,6 +69,7 @@ module _ (udps : List Primitive) where
     claims = each_weaker (λ (c : ℕ × NetClaim). (c.0 < n) × HasCharge c.1.class.kind c.1.class.charge) (λ (c : ℕ × NetClaim). (c.0 < m) × HasCharge c.1.class.kind c.1.class.charge) a.claims (λ c is. let less = is.0 in (omega arith, is.1)) h.claims;
     elements = each_weaker (IsElement n udps) (IsElement m udps) a.elements (λ e is. element_more n m e le is) h.elements;
     finds = each_weaker (IsFind n) (IsFind m) a.finds (λ f is. find_more n m f le is) h.finds;
+    terminals = each_weaker (λ (t : ℕ × Location). t.0 < n) (λ (t : ℕ × Location). t.0 < m) a.terminals (λ t less. omega arith) h.terminals;
   }
 
 -- ---- the numbers of bits
@@ -155,16 +160,30 @@ module _ (udps : List Primitive) (h : Hierarchy) (bits n : ℕ) (at : Place) (is
       each_map (λ (c : ℕ × NetClaim). (c.0 < n) × HasCharge c.1.class.kind c.1.class.charge) (λ place. (bit_number net place, net_claim h at net)) (net_places net)
       (each_weaker (λ place. bit_number net place < n) (λ place. (bit_number net place < n) × HasCharge net.class.kind net.class.charge) (net_places net) (λ place less. (less, charge)) (places_within net fits))
 
-  nets_within : (nets : List PlanNet) (first : ℕ) → AreInRow first nets → first + bit_count nets ≤ bits → AllByRecursion IsPlanNet nets → IsWithin udps n (nets_additions h at nets)
-  nets_within [] first row fits of = record { claims = tt; elements = tt; finds = tt }
-  nets_within (net ∷ nets) first row fits of =
+  abbrev ClaimWithin : ℕ × NetClaim → Type 0
+  ClaimWithin c = (c.0 < n) × HasCharge c.1.class.kind c.1.class.charge
+
+  lists_within : (nets : List PlanNet) (first : ℕ) → AreInRow first nets → first + bit_count nets ≤ bits → AllByRecursion IsPlanNet nets
+      → AllByRecursion ClaimWithin (flat_map (net_claims h at) nets) × AllByRecursion (IsFind n) (flat_map (net_finds at) nets)
+  lists_within [] first row fits of = (tt, tt)
+  lists_within (net ∷ nets) first row fits of =
       let fit : net.first + range_width net.range ≤ bits = omega (arith, row.0) in
-      let rest = nets_within nets (first + range_width net.range) row.1 (omega arith) of.1 in
-      record {
-        claims = each_append (λ (c : ℕ × NetClaim). (c.0 < n) × HasCharge c.1.class.kind c.1.class.charge) (net_claims h at net) (flat_map (net_claims h at) nets) (claims_within net fit of.0.charge) rest.claims;
-        elements = tt;
-        finds = each_append (IsFind n) (net_finds at net) (flat_map (net_finds at) nets) (finds_within net fit) rest.finds;
-      }
+      let rest = lists_within nets (first + range_width net.range) row.1 (omega arith) of.1 in
+      (
+        each_append ClaimWithin (net_claims h at net) (flat_map (net_claims h at) nets) (claims_within net fit of.0.charge) rest.0,
+        each_append (IsFind n) (net_finds at net) (flat_map (net_finds at) nets) (finds_within net fit) rest.1,
+      )
+
+  terminals_within : (terminals : List SwitchTerminal) → AllByRecursion (λ t. t.bit < bits) terminals → AllByRecursion (λ (t : ℕ × Location). t.0 < n) (map (terminal_number at) terminals)
+  terminals_within terminals h =
+      each_map (λ (t : ℕ × Location). t.0 < n) (terminal_number at) terminals
+      (each_weaker (λ t. t.bit < bits) (λ t. (terminal_number at t).0 < n) terminals (λ t less. number_at bits n at t.bit is less) h)
+
+  nets_within : (plan : ModulePlan) → AreInRow 0 plan.nets → bit_count plan.nets ≤ bits → AllByRecursion IsPlanNet plan.nets → AllByRecursion (λ t. t.bit < bits) plan.terminals
+      → IsWithin udps n (nets_additions h at plan)
+  nets_within plan row fits of small =
+      let lists = lists_within plan.nets 0 row (omega arith) of in
+      record { claims = lists.0; elements = tt; finds = lists.1; terminals = terminals_within plan.terminals small }
 
   -- ---- instances
 
@@ -192,33 +211,30 @@ plan_is P [] master none each = none
 plan_is P (p ∷ plans) zero none each = each.0
 plan_is P (p ∷ plans) (suc master) none each = plan_is P plans master none each.1
 
-module _ (udps : List Primitive) (h : Hierarchy) (sound : (master : ℕ) → IsSoundPlan udps h.plans (plan_at h master)) where
+module _ (udps : List Primitive) (h : Hierarchy) (sound : (master : ℕ) → IsSoundPlan udps (plan_at h master)) where
   -- an instance keeps its nets among those before it and its own
   abbrev KeepsWithin : Inner → Type 0
   KeepsWithin inner = (master : ℕ) (path : List Own) (outside : List (ℕ × ℕ)) (next : ℕ) → AreOutside next outside → IsWithin udps (next + length (inner master path outside next).net_names) (inner master path outside next)
 
-  connections_within : (bits : ℕ) (i : PlanInstance) → IsPlanInstance h.plans bits i → AllByRecursion (λ c. AllByRecursion (λ bit. bit < bits) c.bits) i.connections
-  connections_within bits i is = by_plan (slice_get h.plans i.master) is.connections
-    where
-      by_plan : (o : Option ModulePlan) → IsSomeAnd o (λ inner. All (IsConnection bits inner.ports) i.connections) → AllByRecursion (λ c. AllByRecursion (λ bit. bit < bits) c.bits) i.connections
-      by_plan None is = absurd is
-      by_plan (Some inner) is =
-          each_weaker (IsConnection bits inner.ports) (λ c. AllByRecursion (λ bit. bit < bits) c.bits) i.connections
-          (λ c of. each_from_All (λ bit. bit < bits) c.bits of.1) (each_from_All (IsConnection bits inner.ports) i.connections is)
+  connections_within : (bits : ℕ) (i : PlanInstance) → IsPlanInstance bits i → AllByRecursion (λ c. AllByRecursion (λ bit. bit < bits) c.bits) i.connections
+  connections_within bits i is =
+      each_weaker (IsConnection bits) (λ c. AllByRecursion (λ bit. bit < bits) c.bits) i.connections
+      (λ c of. each_from_All (λ bit. bit < bits) c.bits of) (each_from_All (IsConnection bits) i.connections is.connections)
 
-  step_within : (inner : Inner) (bits n : ℕ) (at : Place) (next : ℕ) (s : PlanStep) → IsPlace bits n at → n ≤ next → IsPlanStep udps h.plans bits s → KeepsWithin inner
+  step_within : (inner : Inner) (bits n : ℕ) (at : Place) (next : ℕ) (s : PlanStep) → IsPlace bits n at → n ≤ next → IsPlanStep udps bits s → KeepsWithin inner
       → IsWithin udps (next + length (step_additions inner h at next s).net_names) (step_additions inner h at next s)
   step_within inner bits n at next (ElementStep e) is le of keeps = record {
     claims = tt;
     elements = (element_more udps n (next + 0) (flat_element h at e) (omega arith) (element_within udps h bits n at is e of), tt);
     finds = tt;
+    terminals = tt;
   }
   step_within inner bits n at next (InstanceStep i) is le of keeps =
       let outside = bound_numbers at.numbers (plan_at h i.master).ports i.connections in
       keeps i.master (at.path ++ Written i.name ∷ []) outside next
       (outside_more n next outside le (bound_outside udps h bits n at is (plan_at h i.master).ports i.connections (connections_within bits i of)))
 
-  steps_within : (inner : Inner) (bits n : ℕ) (at : Place) (next : ℕ) (ss : List PlanStep) → IsPlace bits n at → n ≤ next → AllByRecursion (IsPlanStep udps h.plans bits) ss → KeepsWithin inner
+  steps_within : (inner : Inner) (bits n : ℕ) (at : Place) (next : ℕ) (ss : List PlanStep) → IsPlace bits n at → n ≤ next → AllByRecursion (IsPlanStep udps bits) ss → KeepsWithin inner
       → IsWithin udps (next + length (steps_additions inner h at next ss).net_names) (steps_additions inner h at next ss)
   steps_within inner bits n at next [] is le of keeps = within_nothing udps (next + 0)
   steps_within inner bits n at next (s ∷ ss) is le of keeps =
@@ -237,7 +253,7 @@ module _ (udps : List Primitive) (h : Hierarchy) (sound : (master : ℕ) → IsS
   additions_within (suc levels) master path outside next o =
       let at = place_of h master path outside next in
       let plan = plan_at h master in
-      let own = nets_additions h at plan.nets in
+      let own = nets_additions h at plan in
       let then = next + length own.net_names in
       let rest = steps_additions (additions h levels) h at then plan.steps in
       let count = length_append own.net_names rest.net_names in
@@ -249,6 +265,6 @@ module _ (udps : List Primitive) (h : Hierarchy) (sound : (master : ℕ) → IsS
         small = All_from_each (λ number. number < then) at.numbers (subst (λ k. AllByRecursion (λ number. number < next + k) at.numbers) (sym counted) (place_numbers h master path outside next o));
       } in
       within_joined udps whole own rest
-      (within_more udps then whole own (omega arith) (nets_within udps h (bit_count plan.nets) then at is plan.nets 0 of.row (omega arith) (each_from_All IsPlanNet plan.nets of.nets)))
+      (within_more udps then whole own (omega arith) (nets_within udps h (bit_count plan.nets) then at is plan of.row (omega arith) (each_from_All IsPlanNet plan.nets of.nets) (each_from_All (λ t. t.bit < bit_count plan.nets) plan.terminals of.terminals)))
       (within_more udps (then + length rest.net_names) whole rest (omega arith)
-      (steps_within (additions h levels) (bit_count plan.nets) then at then plan.steps is (omega arith) (each_from_All (IsPlanStep udps h.plans (bit_count plan.nets)) plan.steps of.steps) (additions_within levels)))
+      (steps_within (additions h levels) (bit_count plan.nets) then at then plan.steps is (omega arith) (each_from_All (IsPlanStep udps (bit_count plan.nets)) plan.steps of.steps) (additions_within levels)))

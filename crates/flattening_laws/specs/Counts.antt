@@ -1,5 +1,5 @@
 -- What plans say of the numbers of nets, elements and names of a hierarchy.
-use Rattle.std.specs.Prelude.{ℕ, ◌+◌, List, [], ◌∷◌, length, map, slice_get}
+use Rattle.std.specs.Prelude.{ℕ, ◌+◌, min, List, [], ◌∷◌, length, map, slice_get, slice_index_or}
 use Rattle.std.specs.Option.{option_map_or}
 use Rattle.hierarchy_counts.specs.declared.counts.ModuleCounts.{ModuleCounts}
 use Rattle.hierarchy_counts.specs.declared.counts.InstanceCounts.{InstanceCounts}
@@ -10,7 +10,6 @@ use Rattle.netlist_plan.specs.declared.plan.PlanStep.TheVariants.{Element as Ele
 use Rattle.netlist_plan.specs.declared.plan.PortBits.{PortBits}
 use Rattle.netlist_plan.specs.declared.plan.ModulePlan.{ModulePlan}
 use Rattle.netlist_plan.specs.Flattening.{bit_count, no_plan}
-use Rattle.std.specs.Prelude.{slice_index_or}
 
 -- the elements and the instances among the steps of a module
 abbrev pub element_list : List PlanStep → List PlanElement
@@ -35,7 +34,7 @@ module_counts p = record {
 abbrev pub connected_count : List PortBits → List PortBits → ℕ
 connected_count ports [] = 0
 connected_count ports (c ∷ connections) =
-    option_map_or (λ port. length port.bits) (slice_get ports c.port) 0 + connected_count ports connections
+    option_map_or (λ port. min (length port.bits) (length c.bits)) (slice_get ports c.port) 0 + connected_count ports connections
 
 abbrev pub instance_counts : List ModulePlan → PlanInstance → InstanceCounts
 instance_counts plans i = record {

@@ -1,5 +1,5 @@
 -- When what a flattening adds to an empty netlist is sound.
-use Rattle.std.specs.Prelude.{ℕ, ◌<◌, List, length, map}
+use Rattle.std.specs.Prelude.{◌≡◌, ℕ, ◌<◌, List, length, map}
 use Rattle.std.specs.List.{All}
 use Rattle.udp_table.specs.Primitive.{Primitive}
 use Rattle.flat_net.specs.Elements.{IsElement}
@@ -18,6 +18,7 @@ pub record AreSoundAdditions (udps : List Primitive) (a : Additions) : Type 0 wh
   pub net_names : AreNames (length a.net_names) a.net_names
   pub claims : All (IsClaim (length a.net_names)) a.claims
   pub elements : All (IsElement (length a.net_names) udps) a.elements
+  pub resistive : length a.resistive ≡ length a.elements
   pub element_names : AreNames (length a.elements) a.element_names
   pub finds : All (IsFind (length a.net_names)) a.finds
   pub find_names : AreNames (length a.finds) (map (λ found. found.name) a.finds)

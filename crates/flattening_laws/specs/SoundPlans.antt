@@ -1,7 +1,7 @@
 -- When the plan of a module is sound: what the rules on a netlist give of it, and what its flattening needs.
 use Rattle.std.specs.Prelude.{◌≡◌, ℕ, ◌+◌, ◌<◌, ◌≤◌, ◌^◌, Bool, List, [], ◌∷◌, ◌++◌, length, map, Option, Some, None, slice_get}
-use Rattle.std.specs.Option.{IsSomeAnd, is_some}
-use Rattle.std.specs.List.{All, flat_map}
+use Rattle.std.specs.Option.{is_some}
+use Rattle.std.specs.List.{All, Contains, flat_map}
 use Rattle.v_tree.specs.declared.expressions.RangeBounds.{RangeBounds}
 use Rattle.udp_table.specs.Primitive.{Primitive}
 use Rattle.flat_net.specs.Lists.{AreDistinct}
@@ -57,20 +57,19 @@ pub record IsPlanElement (udps : List Primitive) (bits : ℕ) (e : PlanElement) 
 
 -- ---- instances
 
--- a connection to a port has as many bits as the port, all of the module with so many
-abbrev pub IsConnection : ℕ → List PortBits → PortBits → Type 0
-IsConnection bits ports c =
-    IsSomeAnd (slice_get ports c.port) (λ port. length c.bits ≡ length port.bits) × All (λ bit. bit < bits) c.bits
+-- the bits of a connection are of the module with so many
+abbrev pub IsConnection : ℕ → PortBits → Type 0
+IsConnection bits c = All (λ bit. bit < bits) c.bits
 
--- an instance of a module of these plans
-pub record IsPlanInstance (plans : List ModulePlan) (bits : ℕ) (i : PlanInstance) : Type 0 where
+-- an instance in a module with so many bits, which connects each port once
+pub record IsPlanInstance (bits : ℕ) (i : PlanInstance) : Type 0 where
   pub name : IsText i.name
-  pub connections : IsSomeAnd (slice_get plans i.master) (λ inner. All (IsConnection bits inner.ports) i.connections)
+  pub connections : All (IsConnection bits) i.connections
   pub once : AreDistinct (map (λ c. c.port) i.connections)
 
-abbrev pub IsPlanStep : List Primitive → List ModulePlan → ℕ → PlanStep → Type 0
-IsPlanStep udps plans bits (ElementStep e) = IsPlanElement udps bits e
-IsPlanStep udps plans bits (InstanceStep i) = IsPlanInstance plans bits i
+abbrev pub IsPlanStep : List Primitive → ℕ → PlanStep → Type 0
+IsPlanStep udps bits (ElementStep e) = IsPlanElement udps bits e
+IsPlanStep udps bits (InstanceStep i) = IsPlanInstance bits i
 
 -- ---- names
 
@@ -84,19 +83,28 @@ abbrev pub AreNotHalved : List ElementName → Type 0
 AreNotHalved names =
     (i j : ℕ) (own : OwnName) (on_one : Bool) → slice_get names i ≡ Some (Half own on_one) → slice_get names j ≡ Some (Gate own) → ⊥
 
+-- ---- bidirectional switches
+
+-- the ends of an element are terminals of these bits
+abbrev pub HasTerminals : List ℕ → PlanStep → Type 0
+HasTerminals bits (ElementStep e) = All (Contains bits) (end_nets e.ends)
+HasTerminals bits (InstanceStep i) = Unit {0}
+
 -- ---- modules
 
 -- the bits of ports, port by port
 abbrev pub ports_bits : List PortBits → List ℕ
 ports_bits ports = flat_map (λ port. port.bits) ports
 
--- the plan of a module, where these are the primitives and the plans of all modules
-pub record IsSoundPlan (udps : List Primitive) (plans : List ModulePlan) (p : ModulePlan) : Type 0 where
+-- the plan of a module, where these are the primitives
+pub record IsSoundPlan (udps : List Primitive) (p : ModulePlan) : Type 0 where
   pub row : AreInRow 0 p.nets
   pub nets : All IsPlanNet p.nets
   pub net_names : AreDistinct (map (λ net. net.name) p.nets)
   pub ports : All (λ bit. bit < bit_count p.nets) (ports_bits p.ports)
   pub apart : AreDistinct (ports_bits p.ports)
-  pub steps : All (IsPlanStep udps plans (bit_count p.nets)) p.steps
+  pub steps : All (IsPlanStep udps (bit_count p.nets)) p.steps
   pub step_names : AreDistinct (map step_name p.steps)
   pub halves : AreNotHalved (map step_name p.steps)
+  pub terminals : All (λ terminal. terminal.bit < bit_count p.nets) p.terminals
+  pub ends : All (HasTerminals (map (λ terminal. terminal.bit) p.terminals)) p.steps

@@ -30,6 +30,7 @@ inverter = record {
     ins = 1 ∷ [];
     ends = None;
   }) ∷ [];
+  terminals = [];
 }
 
 instance : ℕ → ℕ → ℕ → PlanStep
@@ -44,6 +45,7 @@ top = record {
   nets = wire 111 0 ∷ wire 105 1 ∷ wire 119 2 ∷ [];
   ports = record { port = 0; bits = 0 ∷ [] } ∷ record { port = 1; bits = 1 ∷ [] } ∷ [];
   steps = instance 117 0 2 ∷ instance 118 2 1 ∷ [];
+  terminals = [];
 }
 
 both : (ℕ → Option ℕ → Delays) → Hierarchy

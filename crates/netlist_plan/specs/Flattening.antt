@@ -3,6 +3,7 @@
 use Rattle.std.specs.Prelude.{ℕ, zero, suc, ◌+◌, ◌-◌, Bool, true, false, List, [], ◌∷◌, ◌++◌, map, length, Option, Some, None, slice_get, slice_index_or, nat_eq, nat_le, if◌then◌else◌}
 use Rattle.std.specs.List.{flat_map, range_with_len, zip}
 use Rattle.std.specs.Option.{option_map, option_map_or}
+use Rattle.v_tree.specs.declared.locations.Location.{Location}
 use Rattle.v_tree.specs.declared.expressions.RangeBounds.{RangeBounds}
 use Rattle.delay_rule.specs.declared.delays.Delays.{Delays}
 use Rattle.flat_net.specs.declared.parts.Element.{Element}
@@ -20,6 +21,7 @@ use Rattle.netlist_plan.specs.declared.plan.PlanNet.{PlanNet}
 use Rattle.netlist_plan.specs.declared.plan.PlanStep.{PlanStep}
 use Rattle.netlist_plan.specs.declared.plan.PlanStep.TheVariants.{Element as ElementStep, Instance as InstanceStep}
 use Rattle.netlist_plan.specs.declared.plan.PortBits.{PortBits}
+use Rattle.netlist_plan.specs.declared.plan.SwitchTerminal.{SwitchTerminal}
 use Rattle.netlist_plan.specs.declared.plan.ModulePlan.{ModulePlan}
 use Rattle.netlist_plan.specs.declared.claims.NetClaim.{NetClaim}
 use Rattle.netlist_plan.specs.Additions.{Additions, joined, nothing}
@@ -105,15 +107,20 @@ net_finds at net =
       nets = map (λ place. slice_index_or at.numbers (net.first + place) 0) (net_places net);
     } ∷ bit_finds at net net.range
 
+-- the net at a terminal of a bidirectional switch
+abbrev pub terminal_number : Place → SwitchTerminal → ℕ × Location
+terminal_number at terminal = (slice_index_or at.numbers terminal.bit 0, terminal.location)
+
 -- what the nets of an instance add
-abbrev pub nets_additions : Hierarchy → Place → List PlanNet → Additions
-nets_additions h at nets = record {
-  net_names = flat_map (new_names at) nets;
-  claims = flat_map (net_claims h at) nets;
+abbrev pub nets_additions : Hierarchy → Place → ModulePlan → Additions
+nets_additions h at plan = record {
+  net_names = flat_map (new_names at) plan.nets;
+  claims = flat_map (net_claims h at) plan.nets;
   elements = [];
   element_names = [];
   resistive = [];
-  finds = flat_map (net_finds at) nets;
+  finds = flat_map (net_finds at) plan.nets;
+  terminals = map (terminal_number at) plan.terminals;
 }
 
 -- ---- elements
@@ -165,7 +172,7 @@ numbers_from outside next (bit ∷ bits) =
     ∷ numbers_from outside (if is_bound outside bit then next else next + 1) bits
 
 abbrev pub no_plan : ModulePlan
-no_plan = record { nets = []; ports = []; steps = [] }
+no_plan = record { nets = []; ports = []; steps = []; terminals = [] }
 
 abbrev pub plan_at : Hierarchy → ℕ → ModulePlan
 plan_at h master = slice_index_or h.plans master no_plan
@@ -203,7 +210,7 @@ additions h zero master path outside next = nothing
 additions h (suc levels) master path outside next =
     let at = place_of h master path outside next in
     let plan = plan_at h master in
-    let own = nets_additions h at plan.nets in
+    let own = nets_additions h at plan in
     joined own (steps_additions (additions h levels) h at (next + length own.net_names) plan.steps)
 
 -- the top with all that is in it, at most 64 levels deep

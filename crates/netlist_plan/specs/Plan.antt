@@ -1,7 +1,9 @@
 -- The plan of a module.
-use Rattle.std.specs.Prelude.{ℕ, ◌+◌, ◌-◌, List, [], ◌∷◌, ◌++◌, map, length, drop, Option, Some, None, option_and_then, slice_get}
+use Rattle.std.specs.Prelude.{ℕ, ◌+◌, ◌-◌, Bool, true, false, if◌then◌else◌, List, [], ◌∷◌, ◌++◌, map, length, drop, Option, Some, None, option_and_then, slice_get}
 use Rattle.std.specs.List.{enumerate_from, flat_map, range_with_len}
 use Rattle.std.specs.Option.{option_map_or}
+use Rattle.v_tree.specs.declared.locations.Location.{Location}
+use Rattle.v_tree.specs.declared.expressions.Expr.{Expr}
 use Rattle.v_tree.specs.declared.expressions.RangeBounds.{RangeBounds}
 use Rattle.v_tree.specs.declared.gates.GateItem.{GateItem}
 use Rattle.v_tree.specs.declared.modules.Item.{Item}
@@ -15,14 +17,18 @@ use Rattle.module_scope.specs.Scopes.{scope_net}
 use Rattle.module_graph.specs.declared.references.Master.{Master}
 use Rattle.module_graph.specs.declared.references.Master.TheVariants as master
 use Rattle.module_ports.specs.Ports.{port_names}
+use Rattle.item_parts.specs.Literals.{location_of}
 use Rattle.item_parts.specs.Widths.{net_range, range_width}
+use Rattle.expression_bits.specs.declared.runs.BitRun.{BitRun}
+use Rattle.expression_bits.specs.declared.runs.BitRun.TheVariants.{Net as NetRun, Literal as LiteralRun}
 use Rattle.element_forms.specs.declared.forms.ElementForm.{ElementForm}
-use Rattle.element_forms.specs.declared.forms.ElementForm.TheVariants.{Single}
+use Rattle.element_forms.specs.declared.forms.ElementForm.TheVariants.{Single, Bidirectional, Complementary}
 use Rattle.net_islands.specs.declared.parts.NetClass.{NetClass}
 use Rattle.element_forms.specs.declared.strengths.Strengths.{Strengths}
 use Rattle.element_forms.specs.Classes.{net_class}
 use Rattle.element_forms.specs.Forms.{element_form}
 use Rattle.element_forms.specs.Strengths.{drive_strengths, gate_strengths}
+use Rattle.module_parts.specs.Parts.{terminal_runs}
 use Rattle.module_parts.specs.declared.parts.GatePart.{GatePart}
 use Rattle.module_parts.specs.declared.parts.PairPart.{PairPart}
 use Rattle.module_parts.specs.declared.parts.InstancePart.{InstancePart}
@@ -32,7 +38,7 @@ use Rattle.netlist_plan.specs.declared.nets.NetSource.{NetSource}
 use Rattle.netlist_plan.specs.declared.nets.NetSource.TheVariants.{Named, Literal}
 use Rattle.netlist_plan.specs.declared.nets.ModuleNet.{ModuleNet}
 use Rattle.netlist_plan.specs.Unnamed.{literal_count, numbered_from, own_count, runs_in}
-use Rattle.netlist_plan.specs.Nets.{module_nets, name_first}
+use Rattle.netlist_plan.specs.Nets.{module_nets, name_first, select_offset}
 use Rattle.netlist_plan.specs.declared.plan.OwnName.TheVariants.{Written, Unnamed}
 use Rattle.netlist_plan.specs.declared.plan.PlanElement.{PlanElement}
 use Rattle.netlist_plan.specs.declared.plan.PlanInstance.{PlanInstance}
@@ -40,6 +46,7 @@ use Rattle.netlist_plan.specs.declared.plan.PlanNet.{PlanNet}
 use Rattle.netlist_plan.specs.declared.plan.PlanStep.{PlanStep}
 use Rattle.netlist_plan.specs.declared.plan.PlanStep.TheVariants.{Element as ElementStep, Instance as InstanceStep}
 use Rattle.netlist_plan.specs.declared.plan.PortBits.{PortBits}
+use Rattle.netlist_plan.specs.declared.plan.SwitchTerminal.{SwitchTerminal}
 use Rattle.netlist_plan.specs.declared.plan.ModulePlan.{ModulePlan}
 use Rattle.netlist_plan.specs.Elements.{connections_bits, constants, copies, form_elements, gate_name, runs_bits, terminal_bits}
 
@@ -129,6 +136,36 @@ abbrev pub part_steps : Given → ℕ × ModulePart → List PlanStep
 part_steps given (number, part) =
     element_steps (constants given.nets (number + own_count part) (runs_in part)) ++ own_steps given number part
 
+-- ---- terminals of bidirectional switches
+
+abbrev pub is_bidirectional : ElementForm → Bool
+is_bidirectional (Single kind) = false
+is_bidirectional (Bidirectional kind resistive) = true
+is_bidirectional (Complementary resistive) = false
+
+-- the terminal whose first token stands at a location, with its bit; a literal's is none
+abbrev pub run_terminal : Scope → List ModuleNet → Location → BitRun → List SwitchTerminal
+run_terminal scope nets location (NetRun name select) =
+    record { bit = name_first nets name + select_offset (net_range (scope_net scope name)) select; location = location } ∷ []
+run_terminal scope nets location (LiteralRun bits) = []
+
+abbrev pub expr_terminals : Scope → List ModuleNet → Expr → List SwitchTerminal
+expr_terminals scope nets e = flat_map (run_terminal scope nets (location_of e)) (terminal_runs e)
+
+abbrev pub gate_terminals : Scope → List ModuleNet → GateItem → List SwitchTerminal
+gate_terminals scope nets g =
+    if is_bidirectional (element_form g.kind) then flat_map (λ t. flat_map (expr_terminals scope nets) t.terminals) g.gates else []
+
+abbrev pub item_terminals : Scope → List ModuleNet → Item → List SwitchTerminal
+item_terminals scope nets (item.Gates g) = gate_terminals scope nets g
+item_terminals scope nets (item.Instances i) = []
+item_terminals scope nets (item.Ports d) = []
+item_terminals scope nets (item.Nets d) = []
+item_terminals scope nets (item.Trireg d) = []
+item_terminals scope nets (item.Assign a) = []
+item_terminals scope nets (item.Cell c) = []
+item_terminals scope nets (item.Specify s) = []
+
 -- ---- modules
 
 -- a net of the plan; a name without a net counts as a scalar wire
@@ -161,4 +198,5 @@ module_plan scope meanings m parts =
       nets = map (plan_net scope) nets;
       ports = map (port_bits scope nets) (enumerate_from 0 (port_names m.ports));
       steps = flat_map (part_steps given) (numbered_from 0 parts);
+      terminals = flat_map (item_terminals scope nets) m.items;
     }

@@ -10,5 +10,5 @@ pub use claims::NetClaim;
 pub use nets::{ModuleNet, ModuleNetList, NetSource};
 pub use plan::{
     BitList, ElementName, ModulePlan, OwnName, PlanElement, PlanInstance, PlanNet, PlanNetList,
-    PlanStep, PlanStepList, PortBits, PortBitsList,
+    PlanStep, PlanStepList, PortBits, PortBitsList, SwitchTerminal, SwitchTerminalList,
 };

@@ -5,7 +5,7 @@ use flat_net::ElementKind;
 use list_of::ListOf;
 use net_islands::NetClass;
 use sqlite_items::Items;
-use v_tree::RangeBounds;
+use v_tree::{Location, RangeBounds};
 
 /// Numbers of bits of a module's nets.
 pub type BitList = ListOf<u32>;
@@ -86,11 +86,22 @@ pub struct PlanNet {
 /// Nets, in the order of the first tokens that name them.
 pub type PlanNetList = Items<PlanNet>;
 
-/// What each instance of a module has: its nets, the bits of its ports by their indexes, and its elements
-/// and instances in text order.
+/// A terminal of a bidirectional switch that is a net or a bit of one: its bit, and its first token.
+#[derive(Clone, Copy, Debug)]
+pub struct SwitchTerminal {
+    pub bit: u32,
+    pub location: Location,
+}
+
+/// Terminals of bidirectional switches.
+pub type SwitchTerminalList = ListOf<SwitchTerminal>;
+
+/// What each instance of a module has: its nets, the bits of its ports by their indexes, its elements and
+/// instances in text order, and the terminals of its bidirectional switches.
 #[derive(Debug, Drop)]
 pub struct ModulePlan {
     pub nets: PlanNetList,
     pub ports: PortBitsList,
     pub steps: PlanStepList,
+    pub terminals: SwitchTerminalList,
 }

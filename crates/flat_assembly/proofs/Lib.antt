@@ -1,0 +1,3 @@
+mod AloneLaws
+pub mod AssemblyLaws
+pub mod WiredLaws

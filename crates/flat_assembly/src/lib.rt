@@ -1,0 +1,2 @@
+//! The flat netlist of what a flattening adds.
+#![tactic(auto)]
