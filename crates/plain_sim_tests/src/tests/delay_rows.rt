@@ -1,7 +1,5 @@
 //! Runs of charges and of changes that wait.
-use super::models::{
-    ElementRow, LA0, LA1, LAX, NetRow, RunRow, ST0, ST1, STX, TimeRow, WIRE, Z,
-};
+use super::models::{ElementRow, LA0, LA1, LAX, NetRow, RunRow, ST0, ST1, STX, TimeRow, WIRE, Z};
 use cell_step::PassEnd;
 use flat_net::{ElementKind, NetKind};
 use logic_tables::FoldKind;
