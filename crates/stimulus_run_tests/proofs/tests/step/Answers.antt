@@ -4,4 +4,4 @@ use Rattle.stimulus_run_tests.proofs.Netlists.{netlist-kept}
 use Rattle.stimulus_run_tests.proofs.tests.step.Goals as goal
 
 pub returns : goal.returns
-returns g c = ap (λ (p : Progress). p.netlist) c.next_step.ensures.progress ∙ netlist-kept c.args.run.old
+returns g c = ap (λ (p : Progress). p.netlist) c.next_step.ensures.progress ∙ netlist-kept c.args.run.now
