@@ -1,0 +1,5 @@
+//! The tests of `stimulus_run`.
+#![tactic(auto)]
+
+#[cfg(test)]
+mod tests;
