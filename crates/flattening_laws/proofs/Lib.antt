@@ -2,7 +2,7 @@ pub mod Apart
 mod NameTrees
 mod TreeNames
 mod StepNames
-mod BitNames
+pub mod BitNames
 mod Trees
 mod Numbers
 mod Within

@@ -1,0 +1,4 @@
+mod SourceLaws
+mod RowLaws
+mod BitLaws
+mod WithinLaws
