@@ -1,5 +1,5 @@
 -- The sources of lists of runs and of parts.
-use Rattle.std.proofs.Common.{◌≡◌, ℕ, ◌+◌, ◌<◌, List, [], ◌∷◌, ◌++◌, length, get_or, take, sum_by, sym, ap, ◌∙◌, add_assoc, append_assoc, arith}
+use Rattle.std.proofs.Common.{◌≡◌, ℕ, ◌+◌, ◌<◌, List, [], ◌∷◌, ◌++◌, length, get_or, take, sum_by, sym, ap, ◌∙◌, add_assoc, arith}
 use Rattle.std.specs.List.{flat_map}
 use Rattle.std.proofs.lemmas.Grind.{flat_map-append}
 use Rattle.std.proofs.lemmas.List.{take_more}
@@ -48,16 +48,20 @@ module _ {X : Type 0} (runs_of : X → List BitRun) where
 
 -- ---- parts
 
+pub numbered_from-push : (n : ℕ) (parts : List ModulePart) (part : ModulePart) → numbered_from n (parts ++ part ∷ []) ≡ numbered_from n parts ++ numbered_from (n + sum_by unnamed_count parts) (part ∷ [])
+numbered_from-push n [] part = ap (λ (k : ℕ). numbered_from k (part ∷ [])) (omega arith)
+numbered_from-push n (other ∷ parts) part =
+    ap (λ (rest : List (ℕ × ModulePart)). (n, other) ∷ rest) (numbered_from-push (n + unnamed_count other) parts part)
+    ∙ ap (λ (k : ℕ). (n, other) ∷ (numbered_from (n + unnamed_count other) parts ++ numbered_from k (part ∷ [])))
+    (add_assoc n (unnamed_count other) (sum_by unnamed_count parts) ∙ ap (λ (k : ℕ). n + k) (sym (sum_by-cons unnamed_count other parts)))
+
 abbrev pub parts_sources : ℕ → List ModulePart → List NetSource
 parts_sources n parts = flat_map part_sources (numbered_from n parts)
 
 pub parts_sources-push : (n : ℕ) (parts : List ModulePart) (part : ModulePart) → parts_sources n (parts ++ part ∷ []) ≡ parts_sources n parts ++ parts_sources (n + sum_by unnamed_count parts) (part ∷ [])
-parts_sources-push n [] part = ap (λ (k : ℕ). parts_sources k (part ∷ [])) (omega arith)
-parts_sources-push n (other ∷ parts) part =
-    ap (λ (rest : List NetSource). part_sources (n, other) ++ rest) (parts_sources-push (n + unnamed_count other) parts part)
-    ∙ sym (append_assoc (part_sources (n, other)) (parts_sources (n + unnamed_count other) parts) (parts_sources (n + unnamed_count other + sum_by unnamed_count parts) (part ∷ [])))
-    ∙ ap (λ (k : ℕ). (part_sources (n, other) ++ parts_sources (n + unnamed_count other) parts) ++ parts_sources k (part ∷ []))
-    (add_assoc n (unnamed_count other) (sum_by unnamed_count parts) ∙ ap (λ (k : ℕ). n + k) (sym (sum_by-cons unnamed_count other parts)))
+parts_sources-push n parts part =
+    ap (flat_map part_sources) (numbered_from-push n parts part)
+    ∙ flat_map-append part_sources (numbered_from n parts) (numbered_from (n + sum_by unnamed_count parts) (part ∷ []))
 
 -- ---- widths
 
