@@ -1,9 +1,12 @@
 -- The steps of constants behind constants, of assignments, and of parts.
-use Rattle.std.proofs.Common.{◌≡◌, ℕ, ◌+◌, ◌-◌, ◌<◌, ◌≤◌, min, List, [], ◌∷◌, ◌++◌, map, length, get_or, drop, sum_by, refl, sym, ap, ◌∙◌, append_assoc, add_assoc, arith}
-use Rattle.std.specs.List.{enumerate_from, flat_map, zip}
+use Rattle.std.proofs.Common.{◌≡◌, ℕ, ◌+◌, List, [], ◌∷◌, ◌++◌, map, sum_by, sym, ap, ◌∙◌, append_assoc, add_assoc, arith}
+use Rattle.std.specs.List.{enumerate_from, flat_map}
 use Rattle.std.proofs.lemmas.Grind.{flat_map-append}
-use Rattle.std.proofs.lemmas.List.{append-nil, map-append, drop_all}
-use Rattle.v_lexer.specs.declared.literals.Bit.{Bit}
+use Rattle.std.proofs.lemmas.List.{append-nil, map-append}
+use Rattle.v_tree.specs.declared.modules.Item.{Item}
+use Rattle.v_tree.specs.declared.modules.Module.{Module}
+use Rattle.module_scope.specs.declared.scopes.Scope.{Scope}
+use Rattle.module_ports.specs.Ports.{port_names}
 use Rattle.expression_bits.specs.declared.runs.BitRun.{BitRun}
 use Rattle.expression_bits.specs.declared.runs.BitRun.TheVariants.{Net, Literal}
 use Rattle.module_parts.specs.declared.parts.ModulePart.{ModulePart}
@@ -13,7 +16,12 @@ use Rattle.netlist_plan.specs.declared.plan.PlanStep.{PlanStep}
 use Rattle.netlist_plan.specs.declared.plan.PlanStep.TheVariants.{Element as ElementStep}
 use Rattle.netlist_plan.specs.Unnamed.{literal_count, numbered_from, unnamed_count}
 use Rattle.netlist_plan.specs.Elements.{constants, literal_constants}
-use Rattle.netlist_plan.specs.Plan.{Given, element_steps, part_steps}
+use Rattle.netlist_plan.specs.declared.plan.ModulePlan.{ModulePlan}
+use Rattle.netlist_plan.specs.declared.plan.PlanNet.{PlanNet}
+use Rattle.netlist_plan.specs.declared.plan.PortBits.{PortBits}
+use Rattle.netlist_plan.specs.Nets.{module_nets}
+use Rattle.netlist_plan.specs.Plan.{Given, Meanings, element_steps, module_plan, part_steps, plan_net, port_bits}
+use Rattle.module_plan.specs.Meant.{given}
 use Rattle.module_nets.proofs.Sources.{literal_count-append, literals_in, numbered_from-push}
 
 -- ---- constants
@@ -67,14 +75,32 @@ steps_behind nets number middle xs ys start between last before first second =
 
 -- ---- parts
 
-module _ (given : Given) where
+module _ (from : Given) where
   abbrev pub parts_steps : ℕ → List ModulePart → List PlanStep
-  parts_steps n parts = flat_map (part_steps given) (numbered_from n parts)
+  parts_steps n parts = flat_map (part_steps from) (numbered_from n parts)
 
   pub parts_steps-push : (n : ℕ) (parts : List ModulePart) (part : ModulePart) → parts_steps n (parts ++ part ∷ []) ≡ parts_steps n parts ++ parts_steps (n + sum_by unnamed_count parts) (part ∷ [])
   parts_steps-push n parts part =
-      ap (flat_map (part_steps given)) (numbered_from-push n parts part)
-      ∙ flat_map-append (part_steps given) (numbered_from n parts) (numbered_from (n + sum_by unnamed_count parts) (part ∷ []))
+      ap (flat_map (part_steps from)) (numbered_from-push n parts part)
+      ∙ flat_map-append (part_steps from) (numbered_from n parts) (numbered_from (n + sum_by unnamed_count parts) (part ∷ []))
 
-  pub parts_steps-one : (n : ℕ) (part : ModulePart) → parts_steps n (part ∷ []) ≡ part_steps given (n, part)
-  parts_steps-one n part = append-nil (part_steps given (n, part))
+  pub parts_steps-one : (n : ℕ) (part : ModulePart) → parts_steps n (part ∷ []) ≡ part_steps from (n, part)
+  parts_steps-one n part = append-nil (part_steps from (n, part))
+
+-- ---- plans
+
+abbrev plan_of : List PlanNet → List PortBits → List PlanStep → ModulePlan
+plan_of nets ports steps = record { nets = nets; ports = ports; steps = steps }
+
+-- the plan of a module, whose nets and items are known
+pub module_plan-parts : (scope : Scope) (meant : Meanings) (m : Module) (parts : List ModulePart) (nets : List ModuleNet) (items : List Item) → nets ≡ module_nets scope parts → items ≡ m.items →
+    (plan_nets : List PlanNet) (ports : List PortBits) (steps : List PlanStep) → plan_nets ≡ map (plan_net scope) nets → ports ≡ map (port_bits scope nets) (enumerate_from 0 (port_names m.ports)) →
+    steps ≡ flat_map (part_steps (given scope nets items meant)) (numbered_from 0 parts) → plan_of plan_nets ports steps ≡ module_plan scope meant m parts
+module_plan-parts scope meant m parts nets items nets_are items_are plan_nets ports steps first second third =
+    ap (λ (ns : List PlanNet). plan_of ns ports steps) (first ∙ ap (map (plan_net scope)) nets_are)
+    ∙ ap (λ (ps : List PortBits). plan_of (map (plan_net scope) (module_nets scope parts)) ps steps)
+    (second ∙ ap (λ (ns : List ModuleNet). map (port_bits scope ns) (enumerate_from 0 (port_names m.ports))) nets_are)
+    ∙ ap (λ (ss : List PlanStep). plan_of (map (plan_net scope) (module_nets scope parts)) (map (port_bits scope (module_nets scope parts)) (enumerate_from 0 (port_names m.ports))) ss)
+    (third
+    ∙ ap (λ (ns : List ModuleNet). flat_map (part_steps (given scope ns items meant)) (numbered_from 0 parts)) nets_are
+    ∙ ap (λ (is : List Item). flat_map (part_steps (given scope (module_nets scope parts) is meant)) (numbered_from 0 parts)) items_are)

@@ -1,5 +1,5 @@
 //! The nets of a plan.
-ghost use Rattle.std.specs.Prelude.{◌≡◌, map, length, IfOk};
+ghost use Rattle.std.specs.Prelude.{◌≡◌, map, IfOk};
 ghost use Rattle.netlist_plan.specs.Plan.{literal_net, named_net, plan_net};
 
 use crate::names::copied_name;

@@ -15,7 +15,7 @@ use crate::instances::instance_plan;
 use crate::numbers::number_after;
 use element_forms::ElementForm;
 use module_nets::NetTable;
-use module_parts::{GatePart, InstancePart, ModulePart, PairPart};
+use module_parts::{GatePart, ModulePart, PairPart};
 use module_scope::Scope;
 use netlist_plan::{PlanStep, PlanStepList};
 use sqlite_items::Items;

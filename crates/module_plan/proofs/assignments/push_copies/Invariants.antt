@@ -1,4 +1,4 @@
-use Rattle.std.proofs.Common.{◌≡◌, ◌≤◌, ℕ, ◌++◌, drop, length, map, min}
+use Rattle.std.proofs.Common.{◌≡◌, ℕ, ◌++◌, drop, length, map}
 use Rattle.std.specs.List.{enumerate_from, zip}
 use Rattle.netlist_plan.specs.declared.plan.PlanStep.TheVariants.{Element as ElementStep}
 use Rattle.netlist_plan.specs.Elements.{copied_bit, copies}

@@ -1,7 +1,6 @@
-use Rattle.std.proofs.Common.{ℕ, ◌+◌, List, [], ◌∷◌, ◌++◌, sym, ap, ◌∙◌}
+use Rattle.std.proofs.Common.{ℕ, ◌+◌, List, ◌++◌, sym, ap, ◌∙◌}
 use Rattle.std.proofs.lemmas.List.{take_all}
 use Rattle.expression_bits.specs.declared.runs.BitRun.{BitRun}
-use Rattle.module_parts.specs.declared.parts.PortRuns.{PortRuns}
 use Rattle.netlist_plan.specs.declared.plan.PlanStep.{PlanStep}
 use Rattle.netlist_plan.specs.Unnamed.{literal_count}
 use Rattle.module_nets.proofs.Sources.{literals_in, literals_in-push}

@@ -1,13 +1,11 @@
-use Rattle.std.proofs.Common.{◌≡◌, ◌≤◌, ℕ, ◌+◌, List, [], ◌∷◌, ◌++◌, map, take, subst, sym, ap, refl, ◌∙◌, arith}
-use Rattle.std.proofs.lemmas.List.{map-append, take_all}
+use Rattle.std.proofs.Common.{ℕ, ◌+◌, List, [], ◌∷◌, ◌++◌, map, ap, ◌∙◌, arith}
+use Rattle.std.proofs.lemmas.List.{take_all}
 use Rattle.v_tree.specs.declared.modules.Item.{Item}
-use Rattle.instance_rules.specs.Walks.{master_at}
 use Rattle.module_graph.specs.declared.references.Master.{Master}
-use Rattle.module_graph.specs.Graph.{references_in}
 use Rattle.element_forms.specs.declared.forms.ElementForm.{ElementForm}
 use Rattle.netlist_plan.specs.Plan.{item_form}
-use Rattle.module_plan.specs.Meant.{meanings, reference_count}
-use Rattle.module_plan.proofs.References.{Walked, Walked-more, reference_count-least}
+use Rattle.module_plan.specs.Meant.{meanings}
+use Rattle.module_plan.proofs.References.{Walked-more, reference_count-least}
 use Rattle.module_plan.proofs.forms.item_forms.Goals as goal
 
 pub overflow_add-next : goal.overflow_add-next

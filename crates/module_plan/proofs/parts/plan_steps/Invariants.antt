@@ -1,4 +1,4 @@
-use Rattle.std.proofs.Common.{◌≡◌, ◌+◌, map, sum_by, take}
+use Rattle.std.proofs.Common.{◌≡◌, map, sum_by, take}
 use Rattle.netlist_plan.specs.Unnamed.{unnamed_count}
 use Rattle.netlist_plan.specs.Plan.{Meanings, item_form}
 use Rattle.module_plan.specs.Meant.{given}

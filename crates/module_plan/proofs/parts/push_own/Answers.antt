@@ -1,6 +1,5 @@
-use Rattle.std.proofs.Common.{◌≡◌, ℕ, List, [], ◌∷◌, ◌++◌, map, OnOk, sym, ap, ◌∙◌}
+use Rattle.std.proofs.Common.{◌≡◌, [], ◌∷◌, ◌++◌, map, sym, ap, ◌∙◌}
 use Rattle.module_parts.specs.declared.parts.ModulePart.{ModulePart}
-use Rattle.module_parts.specs.declared.parts.ModulePart.TheVariants.{Gate, Pair, Instance}
 use Rattle.netlist_plan.specs.declared.plan.PlanInstance.{PlanInstance}
 use Rattle.netlist_plan.specs.declared.plan.PlanStep.TheVariants.{Instance as InstanceStep}
 use Rattle.netlist_plan.specs.Plan.{Meanings, element_steps, gate_elements, item_form, own_steps, pair_elements}

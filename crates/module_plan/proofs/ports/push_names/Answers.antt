@@ -1,9 +1,6 @@
-use Rattle.std.proofs.Common.{◌≡◌, ℕ, ◌+◌, List, [], ◌∷◌, ◌++◌, map, refl, sym, ap, ◌∙◌}
+use Rattle.std.proofs.Common.{List, ◌++◌, map, refl}
 use Rattle.std.specs.List.{enumerate_from}
 use Rattle.v_tree.specs.declared.locations.Name.{Name}
-use Rattle.v_tree.specs.declared.modules.AnsiEntry.{AnsiEntry}
-use Rattle.module_ports.specs.Ports.{entry_name}
-use Rattle.netlist_plan.specs.declared.plan.PortBits.{PortBits}
 use Rattle.netlist_plan.specs.Plan.{port_bits}
 use Rattle.module_plan.proofs.Walks.{seen_all, seen_more}
 use Rattle.module_plan.proofs.ports.push_names.Goals as goal
