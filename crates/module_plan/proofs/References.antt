@@ -10,7 +10,8 @@ use Rattle.instance_rules.specs.Walks.{master_at, master_in}
 use Rattle.instance_rules.proofs.Walking.{drop_front}
 use Rattle.element_forms.specs.declared.forms.ElementForm.{ElementForm}
 use Rattle.netlist_plan.specs.Plan.{item_form, master_form}
-use Rattle.module_plan.specs.Meant.{meanings, reference_count}
+use Rattle.module_plan.specs.Meant.{meanings}
+use Rattle.module_plan.specs.Surroundings.{reference_count}
 use Rattle.module_plan.proofs.Walks.{left_at, take_at}
 
 pub reference_count-least : (x : Item) → reference_count x ≤ 1

@@ -21,7 +21,7 @@ use Rattle.netlist_plan.specs.declared.plan.PlanNet.{PlanNet}
 use Rattle.netlist_plan.specs.declared.plan.PortBits.{PortBits}
 use Rattle.netlist_plan.specs.Nets.{module_nets}
 use Rattle.netlist_plan.specs.Plan.{Given, Meanings, element_steps, module_plan, part_steps, plan_net, port_bits}
-use Rattle.module_plan.specs.Meant.{given}
+use Rattle.module_plan.specs.Surroundings.{given}
 use Rattle.module_nets.proofs.Sources.{literal_count-append, literals_in, numbered_from-push}
 
 -- ---- constants

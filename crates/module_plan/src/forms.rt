@@ -4,7 +4,8 @@ ghost use Rattle.std.specs.Option.{unwrap_or};
 ghost use Rattle.module_graph.specs.Graph.{references_in};
 ghost use Rattle.module_graph.specs.declared.references.Master.{Master as MasterValue};
 ghost use Rattle.netlist_plan.specs.Plan.{item_form, item_strengths, strengths_at};
-ghost use Rattle.module_plan.specs.Meant.{meanings, reference_count};
+ghost use Rattle.module_plan.specs.Meant.{meanings};
+ghost use Rattle.module_plan.specs.Surroundings.{reference_count};
 
 use element_forms::{ElementForm, Strengths, drive_strengths, element_form, gate_strengths};
 use flat_net::ElementKind;

@@ -5,7 +5,7 @@ ghost use Rattle.netlist_plan.specs.Elements.{connections_bits};
 ghost use Rattle.std.specs.Option.{option_map_or};
 ghost use Rattle.v_tree.specs.declared.modules.Item.{Item as ItemValue};
 ghost use Rattle.netlist_plan.specs.Plan.{Meanings, instance_plan};
-ghost use Rattle.module_plan.specs.Meant.{given};
+ghost use Rattle.module_plan.specs.Surroundings.{given};
 
 use crate::bits::{RunBits, runs_bits};
 use crate::names::instance_name;

@@ -4,7 +4,7 @@ ghost use Rattle.std.specs.List.{flat_map};
 ghost use Rattle.netlist_plan.specs.Unnamed.{literal_count, numbered_from, own_count, runs_in, unnamed_count};
 ghost use Rattle.netlist_plan.specs.Elements.{constants};
 ghost use Rattle.netlist_plan.specs.Plan.{Meanings, element_steps, gate_elements, item_form, own_steps, pair_elements, part_steps};
-ghost use Rattle.module_plan.specs.Meant.{given};
+ghost use Rattle.module_plan.specs.Surroundings.{given};
 
 use crate::assignments::{cut_bits, push_copies};
 use crate::bits::{runs_bits, terminal_bits};

@@ -4,7 +4,7 @@ use Rattle.std.proofs.lemmas.List.Sums.{sum_by-append, sum_by-cons}
 use Rattle.module_parts.specs.declared.parts.ModulePart.{ModulePart}
 use Rattle.netlist_plan.specs.declared.plan.PlanStep.{PlanStep}
 use Rattle.netlist_plan.specs.Unnamed.{unnamed_count}
-use Rattle.module_plan.specs.Meant.{given}
+use Rattle.module_plan.specs.Surroundings.{given}
 use Rattle.module_plan.proofs.Walks.{made_more, next_more}
 use Rattle.module_plan.proofs.Steps.{parts_steps, parts_steps-one, parts_steps-push}
 use Rattle.module_plan.proofs.parts.plan_steps.Goals as goal

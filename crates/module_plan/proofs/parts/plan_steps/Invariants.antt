@@ -1,7 +1,7 @@
 use Rattle.std.proofs.Common.{◌≡◌, map, sum_by, take}
 use Rattle.netlist_plan.specs.Unnamed.{unnamed_count}
 use Rattle.netlist_plan.specs.Plan.{Meanings, item_form}
-use Rattle.module_plan.specs.Meant.{given}
+use Rattle.module_plan.specs.Surroundings.{given}
 use Rattle.module_plan.proofs.Steps.{parts_steps}
 use Rattle.module_plan.proofs.parts.plan_steps.Given as goal
 

@@ -4,7 +4,7 @@ use Rattle.netlist_plan.specs.declared.plan.PlanInstance.{PlanInstance}
 use Rattle.netlist_plan.specs.declared.plan.PlanStep.TheVariants.{Instance as InstanceStep}
 use Rattle.netlist_plan.specs.Plan.{Meanings, element_steps, gate_elements, item_form, own_steps, pair_elements}
 use Rattle.module_nets.proofs.Gaining.{ok_then}
-use Rattle.module_plan.specs.Meant.{given}
+use Rattle.module_plan.specs.Surroundings.{given}
 use Rattle.module_plan.proofs.parts.push_own.Goals as goal
 
 pub returns-in-Gate : goal.returns-in-Gate
