@@ -14,17 +14,17 @@ use Rattle.netlist_plan.specs.declared.nets.NetSource.TheVariants.{Named, Litera
 use Rattle.netlist_plan.specs.Nets.{module_nets, nets_from, new_sources, part_sources, run_sources, source_width}
 use Rattle.netlist_plan.specs.Unnamed.{literal_count, unnamed_count}
 use Rattle.module_nets.specs.declared.entries.NetEntries.{NetEntries}
-use Rattle.module_nets.specs.Entries.{AreNets, Gained, IsEmpty, nets_with}
+use Rattle.module_nets.specs.Entries.{AreNets, HasGained, IsEmpty, nets_with}
 use Rattle.module_nets.proofs.Sources.{literal_count-append, literals_in, parts_sources, run_sources-append, sources_in}
 use Rattle.module_nets.proofs.Finding.{net_at, literals-name, literals-next, literals-none, names-literal, names-new}
 
 -- nothing
-pub Gained-none : (scope : Scope) (e : NetEntries) → AreNets e → Gained scope e e [] 0
-Gained-none scope e are = record { are = are; numbers = omega arith; nets = λ rest. refl }
+pub HasGained-none : (scope : Scope) (e : NetEntries) → AreNets e → HasGained scope e e [] 0
+HasGained-none scope e are = record { are = are; numbers = omega arith; nets = λ rest. refl }
 
 -- one gain after another
-pub Gained-then : (scope : Scope) (a b c : NetEntries) (s t : List NetSource) (m n : ℕ) → Gained scope a b s m → Gained scope b c t n → Gained scope a c (s ++ t) (m + n)
-Gained-then scope a b c s t m n first second = record {
+pub HasGained-then : (scope : Scope) (a b c : NetEntries) (s t : List NetSource) (m n : ℕ) → HasGained scope a b s m → HasGained scope b c t n → HasGained scope a c (s ++ t) (m + n)
+HasGained-then scope a b c s t m n first second = record {
   are = second.are;
   numbers = second.numbers ∙ ap (λ (k : ℕ). k + n) first.numbers ∙ add_assoc (length a.literal_firsts) m n;
   nets = λ rest.
@@ -33,14 +33,14 @@ Gained-then scope a b c s t m n first second = record {
 }
 
 -- the same at equal sources and numbers
-pub Gained-same : (scope : Scope) (a b : NetEntries) (s t : List NetSource) (m n : ℕ) → s ≡ t → m ≡ n → Gained scope a b s m → Gained scope a b t n
-Gained-same scope a b s t m n sources numbers gained =
-    subst (λ (k : ℕ). Gained scope a b t k) numbers (subst (λ (ss : List NetSource). Gained scope a b ss m) sources gained)
+pub HasGained-same : (scope : Scope) (a b : NetEntries) (s t : List NetSource) (m n : ℕ) → s ≡ t → m ≡ n → HasGained scope a b s m → HasGained scope a b t n
+HasGained-same scope a b s t m n sources numbers gained =
+    subst (λ (k : ℕ). HasGained scope a b t k) numbers (subst (λ (ss : List NetSource). HasGained scope a b ss m) sources gained)
 
 module _ (scope : Scope) (old : NetEntries) (are : AreNets old) where
   -- the sources of a name that is there already
-  pub Gained-again : (name : List ℕ) (k : ℕ) → index_of name old.names ≡ Some k → Gained scope old old (Named name ∷ []) 0
-  Gained-again name k found = record {
+  pub HasGained-again : (name : List ℕ) (k : ℕ) → index_of name old.names ≡ Some k → HasGained scope old old (Named name ∷ []) 0
+  HasGained-again name k found = record {
     are = are;
     numbers = omega arith;
     nets = λ rest.
@@ -50,9 +50,9 @@ module _ (scope : Scope) (old : NetEntries) (are : AreNets old) where
 
   module _ (new : NetEntries) where
     -- a thing without name that isn't a literal
-    pub Gained-unnamed : new.nets ≡ old.nets → new.names ≡ old.names → new.name_firsts ≡ old.name_firsts → new.literal_firsts ≡ old.literal_firsts ++ None ∷ [] → new.bits ≡ old.bits →
-        Gained scope old new [] 1
-    Gained-unnamed nets names firsts literals bits = record {
+    pub HasGained-unnamed : new.nets ≡ old.nets → new.names ≡ old.names → new.name_firsts ≡ old.name_firsts → new.literal_firsts ≡ old.literal_firsts ++ None ∷ [] → new.bits ≡ old.bits →
+        HasGained scope old new [] 1
+    HasGained-unnamed nets names firsts literals bits = record {
       are = record {
         whole = ap length firsts ∙ are.whole ∙ sym (ap length names);
         names = λ q. rw (nets, names, firsts) (are.names q);
@@ -63,10 +63,10 @@ module _ (scope : Scope) (old : NetEntries) (are : AreNets old) where
     }
 
     -- the net of a new name
-    pub Gained-new : (name : List ℕ) → index_of name old.names ≡ None → new.nets ≡ old.nets ++ net_at (Named name) old.bits ∷ [] → new.names ≡ old.names ++ name ∷ [] →
+    pub HasGained-new : (name : List ℕ) → index_of name old.names ≡ None → new.nets ≡ old.nets ++ net_at (Named name) old.bits ∷ [] → new.names ≡ old.names ++ name ∷ [] →
         new.name_firsts ≡ old.name_firsts ++ old.bits ∷ [] → new.literal_firsts ≡ old.literal_firsts → new.bits ≡ old.bits + source_width scope (Named name) →
-        Gained scope old new (Named name ∷ []) 0
-    Gained-new name absent nets names firsts literals bits = record {
+        HasGained scope old new (Named name ∷ []) 0
+    HasGained-new name absent nets names firsts literals bits = record {
       are = record {
         whole =
             ap length firsts ∙ length-append old.name_firsts (old.bits ∷ [])
@@ -84,10 +84,10 @@ module _ (scope : Scope) (old : NetEntries) (are : AreNets old) where
     }
 
     -- the net of a literal
-    pub Gained-literal : (literal : List Bit) → new.nets ≡ old.nets ++ net_at (Literal (length old.literal_firsts) literal) old.bits ∷ [] → new.names ≡ old.names →
+    pub HasGained-literal : (literal : List Bit) → new.nets ≡ old.nets ++ net_at (Literal (length old.literal_firsts) literal) old.bits ∷ [] → new.names ≡ old.names →
         new.name_firsts ≡ old.name_firsts → new.literal_firsts ≡ old.literal_firsts ++ Some old.bits ∷ [] → new.bits ≡ old.bits + length literal →
-        Gained scope old new (Literal (length old.literal_firsts) literal ∷ []) 1
-    Gained-literal literal nets names firsts literals bits = record {
+        HasGained scope old new (Literal (length old.literal_firsts) literal ∷ []) 1
+    HasGained-literal literal nets names firsts literals bits = record {
       are = record {
         whole = ap length firsts ∙ are.whole ∙ sym (ap length names);
         names = λ q. rw (nets, names, firsts) (names-literal old.nets (length old.literal_firsts) literal old.bits q ∙ are.names q);
@@ -102,32 +102,32 @@ module _ (scope : Scope) (old : NetEntries) (are : AreNets old) where
 -- ---- lists
 
 -- one element more, where sources and numbers go along a list
-pub Gained-more : {X : Type 0} (sources : ℕ → List X → List NetSource) (count : List X → ℕ)
+pub HasGained-more : {X : Type 0} (sources : ℕ → List X → List NetSource) (count : List X → ℕ)
     → ((n : ℕ) (xs : List X) (x : X) → sources n (xs ++ x ∷ []) ≡ sources n xs ++ sources (n + count xs) (x ∷ []))
     → ((xs : List X) (x : X) → count (xs ++ x ∷ []) ≡ count xs + count (x ∷ []))
     → (scope : Scope) (a b c : NetEntries) (xs : List X) (x : X)
-    → Gained scope a b (sources (length a.literal_firsts) xs) (count xs)
-    → Gained scope b c (sources (length b.literal_firsts) (x ∷ [])) (count (x ∷ []))
-    → Gained scope a c (sources (length a.literal_firsts) (xs ++ x ∷ [])) (count (xs ++ x ∷ []))
-Gained-more {X} sources count sources_push count_push scope a b c xs x first second =
+    → HasGained scope a b (sources (length a.literal_firsts) xs) (count xs)
+    → HasGained scope b c (sources (length b.literal_firsts) (x ∷ [])) (count (x ∷ []))
+    → HasGained scope a c (sources (length a.literal_firsts) (xs ++ x ∷ [])) (count (xs ++ x ∷ []))
+HasGained-more {X} sources count sources_push count_push scope a b c xs x first second =
     let n = length a.literal_firsts in
-    Gained-same scope a c (sources n xs ++ sources (length b.literal_firsts) (x ∷ [])) (sources n (xs ++ x ∷ [])) (count xs + count (x ∷ [])) (count (xs ++ x ∷ []))
+    HasGained-same scope a c (sources n xs ++ sources (length b.literal_firsts) (x ∷ [])) (sources n (xs ++ x ∷ [])) (count xs + count (x ∷ [])) (count (xs ++ x ∷ []))
     (ap (λ (k : ℕ). sources n xs ++ sources k (x ∷ [])) first.numbers ∙ sym (sources_push n xs x))
     (sym (count_push xs x))
-    (Gained-then scope a b c (sources n xs) (sources (length b.literal_firsts) (x ∷ [])) (count xs) (count (x ∷ [])) first second)
+    (HasGained-then scope a b c (sources n xs) (sources (length b.literal_firsts) (x ∷ [])) (count xs) (count (x ∷ [])) first second)
 
 -- the same in a loop
-pub Gained-next : {X : Type 0} (sources : ℕ → List X → List NetSource) (count : List X → ℕ)
+pub HasGained-next : {X : Type 0} (sources : ℕ → List X → List NetSource) (count : List X → ℕ)
     → ((n : ℕ) (xs : List X) (x : X) → sources n (xs ++ x ∷ []) ≡ sources n xs ++ sources (n + count xs) (x ∷ []))
     → ((xs : List X) (x : X) → count (xs ++ x ∷ []) ≡ count xs + count (x ∷ []))
     → (scope : Scope) (a b c : NetEntries) (xs : List X) (i : ℕ) (x : X) → i < length xs → x ≡ get_or xs i x
-    → Gained scope a b (sources (length a.literal_firsts) (take i xs)) (count (take i xs))
-    → Gained scope b c (sources (length b.literal_firsts) (x ∷ [])) (count (x ∷ []))
-    → Gained scope a c (sources (length a.literal_firsts) (take (i + 1) xs)) (count (take (i + 1) xs))
-Gained-next {X} sources count sources_push count_push scope a b c xs i x lt at first second =
+    → HasGained scope a b (sources (length a.literal_firsts) (take i xs)) (count (take i xs))
+    → HasGained scope b c (sources (length b.literal_firsts) (x ∷ [])) (count (x ∷ []))
+    → HasGained scope a c (sources (length a.literal_firsts) (take (i + 1) xs)) (count (take (i + 1) xs))
+HasGained-next {X} sources count sources_push count_push scope a b c xs i x lt at first second =
     let longer : take (i + 1) xs ≡ take i xs ++ x ∷ [] = take_more xs i x lt ∙ ap (λ (y : X). take i xs ++ y ∷ []) (sym at) in
-    subst (λ (ys : List X). Gained scope a c (sources (length a.literal_firsts) ys) (count ys)) (sym longer)
-    (Gained-more sources count sources_push count_push scope a b c (take i xs) x first second)
+    subst (λ (ys : List X). HasGained scope a c (sources (length a.literal_firsts) ys) (count ys)) (sym longer)
+    (HasGained-more sources count sources_push count_push scope a b c (take i xs) x first second)
 
 -- where a step ends well, what it gives gives more
 pub ok_then : {T E : Type 0} (r : Result T E) (P Q : Type 0) → OnOk r P → (P → Q) → OnOk r Q
@@ -137,44 +137,44 @@ ok_then (Err e) P Q given then = tt
 -- ---- runs
 
 -- runs behind things without name
-pub Gained-behind : (scope : Scope) (a b c : NetEntries) (runs : List BitRun) (own count : ℕ) → Gained scope a b [] own → Gained scope b c (run_sources (length b.literal_firsts) runs) count
-    → Gained scope a c (run_sources (length a.literal_firsts + own) runs) (own + count)
-Gained-behind scope a b c runs own count first second =
-    Gained-same scope a c ([] ++ run_sources (length b.literal_firsts) runs) (run_sources (length a.literal_firsts + own) runs) (own + count) (own + count)
+pub HasGained-behind : (scope : Scope) (a b c : NetEntries) (runs : List BitRun) (own count : ℕ) → HasGained scope a b [] own → HasGained scope b c (run_sources (length b.literal_firsts) runs) count
+    → HasGained scope a c (run_sources (length a.literal_firsts + own) runs) (own + count)
+HasGained-behind scope a b c runs own count first second =
+    HasGained-same scope a c ([] ++ run_sources (length b.literal_firsts) runs) (run_sources (length a.literal_firsts + own) runs) (own + count) (own + count)
     (ap (λ (n : ℕ). run_sources n runs) first.numbers) refl
-    (Gained-then scope a b c [] (run_sources (length b.literal_firsts) runs) own count first second)
+    (HasGained-then scope a b c [] (run_sources (length b.literal_firsts) runs) own count first second)
 
 -- runs behind runs
-pub Gained-runs : (scope : Scope) (a b c : NetEntries) (xs ys : List BitRun)
-    → Gained scope a b (run_sources (length a.literal_firsts) xs) (literal_count xs) → Gained scope b c (run_sources (length b.literal_firsts) ys) (literal_count ys)
-    → Gained scope a c (run_sources (length a.literal_firsts) (xs ++ ys)) (literal_count (xs ++ ys))
-Gained-runs scope a b c xs ys first second =
+pub HasGained-runs : (scope : Scope) (a b c : NetEntries) (xs ys : List BitRun)
+    → HasGained scope a b (run_sources (length a.literal_firsts) xs) (literal_count xs) → HasGained scope b c (run_sources (length b.literal_firsts) ys) (literal_count ys)
+    → HasGained scope a c (run_sources (length a.literal_firsts) (xs ++ ys)) (literal_count (xs ++ ys))
+HasGained-runs scope a b c xs ys first second =
     let n = length a.literal_firsts in
-    Gained-same scope a c (run_sources n xs ++ run_sources (length b.literal_firsts) ys) (run_sources n (xs ++ ys)) (literal_count xs + literal_count ys) (literal_count (xs ++ ys))
+    HasGained-same scope a c (run_sources n xs ++ run_sources (length b.literal_firsts) ys) (run_sources n (xs ++ ys)) (literal_count xs + literal_count ys) (literal_count (xs ++ ys))
     (ap (λ (k : ℕ). run_sources n xs ++ run_sources k ys) first.numbers ∙ sym (run_sources-append n xs ys))
     (sym (literal_count-append xs ys))
-    (Gained-then scope a b c (run_sources n xs) (run_sources (length b.literal_firsts) ys) (literal_count xs) (literal_count ys) first second)
+    (HasGained-then scope a b c (run_sources n xs) (run_sources (length b.literal_firsts) ys) (literal_count xs) (literal_count ys) first second)
 
 -- the runs of one element
-pub Gained-one : {X : Type 0} (runs_of : X → List BitRun) (scope : Scope) (a b : NetEntries) (x : X)
-    → Gained scope a b (run_sources (length a.literal_firsts) (runs_of x)) (literal_count (runs_of x))
-    → Gained scope a b (sources_in runs_of (length a.literal_firsts) (x ∷ [])) (literals_in runs_of (x ∷ []))
-Gained-one runs_of scope a b x gained =
-    subst (λ (runs : List BitRun). Gained scope a b (run_sources (length a.literal_firsts) runs) (literal_count runs)) (sym (append-nil (runs_of x))) gained
+pub HasGained-one : {X : Type 0} (runs_of : X → List BitRun) (scope : Scope) (a b : NetEntries) (x : X)
+    → HasGained scope a b (run_sources (length a.literal_firsts) (runs_of x)) (literal_count (runs_of x))
+    → HasGained scope a b (sources_in runs_of (length a.literal_firsts) (x ∷ [])) (literals_in runs_of (x ∷ []))
+HasGained-one runs_of scope a b x gained =
+    subst (λ (runs : List BitRun). HasGained scope a b (run_sources (length a.literal_firsts) runs) (literal_count runs)) (sym (append-nil (runs_of x))) gained
 
 -- one part
-pub Gained-part : (scope : Scope) (a b : NetEntries) (part : ModulePart) → Gained scope a b (part_sources (length a.literal_firsts, part)) (unnamed_count part)
-    → Gained scope a b (parts_sources (length a.literal_firsts) (part ∷ [])) (sum_by unnamed_count (part ∷ []))
-Gained-part scope a b part gained =
-    Gained-same scope a b (part_sources (length a.literal_firsts, part)) (parts_sources (length a.literal_firsts) (part ∷ [])) (unnamed_count part) (sum_by unnamed_count (part ∷ []))
+pub HasGained-part : (scope : Scope) (a b : NetEntries) (part : ModulePart) → HasGained scope a b (part_sources (length a.literal_firsts, part)) (unnamed_count part)
+    → HasGained scope a b (parts_sources (length a.literal_firsts) (part ∷ [])) (sum_by unnamed_count (part ∷ []))
+HasGained-part scope a b part gained =
+    HasGained-same scope a b (part_sources (length a.literal_firsts, part)) (parts_sources (length a.literal_firsts) (part ∷ [])) (unnamed_count part) (sum_by unnamed_count (part ∷ []))
     (sym (append-nil (part_sources (length a.literal_firsts, part))))
     (omega (arith, sum_by-cons unnamed_count part []))
     gained
 
 -- what all parts make of no nets
-pub Gained-all : (scope : Scope) (old new : NetEntries) (parts : List ModulePart) (unnamed : ℕ) → IsEmpty old → Gained scope old new (parts_sources (length old.literal_firsts) parts) unnamed
+pub HasGained-all : (scope : Scope) (old new : NetEntries) (parts : List ModulePart) (unnamed : ℕ) → IsEmpty old → HasGained scope old new (parts_sources (length old.literal_firsts) parts) unnamed
     → new.nets ≡ module_nets scope parts
-Gained-all scope old new parts unnamed empty gained =
+HasGained-all scope old new parts unnamed empty gained =
     let start : length old.literal_firsts ≡ 0 = ap length empty.literals in
     let sources = parts_sources (length old.literal_firsts) parts in
     sym (append-nil new.nets)

@@ -31,7 +31,7 @@ abbrev pub nets_with : Scope → NetEntries → List NetSource → List ModuleNe
 nets_with scope e sources = e.nets ++ nets_from scope e.bits (new_sources e.names sources)
 
 -- entries that have gained sources, and so many things without name
-pub record Gained (scope : Scope) (old new : NetEntries) (sources : List NetSource) (unnamed : ℕ) : Type 0 where
+pub record HasGained (scope : Scope) (old new : NetEntries) (sources : List NetSource) (unnamed : ℕ) : Type 0 where
   pub are : AreNets new
   pub numbers : length new.literal_firsts ≡ length old.literal_firsts + unnamed
   pub nets : (rest : List NetSource) → nets_with scope new rest ≡ nets_with scope old (sources ++ rest)

@@ -4,7 +4,7 @@ ghost use Rattle.std.specs.Option.{option_flatten, unwrap_or};
 ghost use Rattle.name_table.specs.Names.{index_of};
 ghost use Rattle.module_scope.specs.declared.scopes.Scope.{Scope as ScopeValue};
 ghost use Rattle.netlist_plan.specs.Nets.{literal_first, name_first};
-ghost use Rattle.module_nets.specs.Entries.{AreNets, Gained, IsEmpty};
+ghost use Rattle.module_nets.specs.Entries.{AreNets, HasGained, IsEmpty};
 
 use byte_lists::Bytes;
 use item_parts::name_width;
@@ -68,7 +68,7 @@ impl NetEntries {
     /// Counts a thing without name that isn't a literal.
     pub fn count_unnamed(&mut self) -> Result<(), AllocError>
         requires { AreNets self.old }
-        ensures { OnOk result ((scope : ScopeValue) → Gained scope self.old self.new [] 1) }
+        ensures { OnOk result ((scope : ScopeValue) → HasGained scope self.old self.new [] 1) }
     {
         self.literal_firsts.push(None)
     }
@@ -78,7 +78,7 @@ impl NetEntries {
         requires nets { AreNets self.old }
         requires new { index_of name.now self.old.names ≡ None }
         ensures { OnOk result
-            (Gained scope.now self.old self.new (NetSource.Named name.now ∷ []) 0) }
+            (HasGained scope.now self.old self.new (NetSource.Named name.now ∷ []) 0) }
     {
         let first = self.bits;
         let bits = bit_sum(first, name_width(scope, name, None))?;
@@ -97,7 +97,7 @@ impl NetEntries {
     pub fn push_name(&mut self, alloc: Global, scope: &Scope, name: &[u8]) -> Result<(), AllocError>
         requires { AreNets self.old }
         ensures { OnOk result
-            (Gained scope.now self.old self.new (NetSource.Named name.now ∷ []) 0) }
+            (HasGained scope.now self.old self.new (NetSource.Named name.now ∷ []) 0) }
     {
         match self.names.find(name) {
             Some(_) => Ok(()),
@@ -108,7 +108,7 @@ impl NetEntries {
     /// Adds the net of a literal, which is the next thing without name.
     pub fn push_literal(&mut self, alloc: Global, bits: &BitList) -> Result<(), AllocError>
         requires { AreNets self.old }
-        ensures { OnOk result ((scope : ScopeValue) → Gained scope self.old self.new
+        ensures { OnOk result ((scope : ScopeValue) → HasGained scope self.old self.new
             (NetSource.Literal (length self.old.literal_firsts) bits.now ∷ []) 1) }
     {
         let first = self.bits;

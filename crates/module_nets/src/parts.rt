@@ -6,7 +6,7 @@ ghost use Rattle.module_scope.specs.declared.scopes.Scope.{Scope as ScopeValue};
 ghost use Rattle.netlist_plan.specs.declared.nets.NetSource.TheVariants.{Named};
 ghost use Rattle.netlist_plan.specs.Nets.{module_nets, part_sources};
 ghost use Rattle.netlist_plan.specs.Unnamed.{numbered_from, unnamed_count};
-ghost use Rattle.module_nets.specs.Entries.{AreNets, Gained};
+ghost use Rattle.module_nets.specs.Entries.{AreNets, HasGained};
 
 use crate::entries::NetEntries;
 use crate::runs::{push_connections, push_runs, push_terminals};
@@ -24,7 +24,7 @@ fn push_names(
 ) -> Result<(), AllocError>
     requires { AreNets entries.old }
     ensures { OnOk result
-        (Gained scope.now entries.old entries.new (map Named names.now) 0) }
+        (HasGained scope.now entries.old entries.new (map Named names.now) 0) }
 {
     for name in names {
         entries.push_name(alloc, scope, name.as_slice())?;
@@ -36,7 +36,7 @@ fn push_names(
 fn count_gate(entries: &mut NetEntries, name: &Option<Bytes>) -> Result<(), AllocError>
     requires { AreNets entries.old }
     ensures { OnOk result ((scope : ScopeValue) →
-        Gained scope entries.old entries.new [] (option_map_or (λ text. 0) name.now 1)) }
+        HasGained scope entries.old entries.new [] (option_map_or (λ text. 0) name.now 1)) }
 {
     match name {
         Some(_) => Ok(()),
@@ -52,7 +52,7 @@ fn push_gate(
     gate: &GatePart,
 ) -> Result<(), AllocError>
     requires { AreNets entries.old }
-    ensures { OnOk result (Gained scope.now entries.old entries.new
+    ensures { OnOk result (HasGained scope.now entries.old entries.new
         (part_sources (length entries.old.literal_firsts, ModulePart.Gate gate.now))
         (unnamed_count (ModulePart.Gate gate.now))) }
 {
@@ -68,7 +68,7 @@ fn push_pair(
     pair: &PairPart,
 ) -> Result<(), AllocError>
     requires { AreNets entries.old }
-    ensures { OnOk result (Gained scope.now entries.old entries.new
+    ensures { OnOk result (HasGained scope.now entries.old entries.new
         (part_sources (length entries.old.literal_firsts, ModulePart.Pair pair.now))
         (unnamed_count (ModulePart.Pair pair.now))) }
 {
@@ -85,7 +85,7 @@ fn push_part(
     part: &ModulePart,
 ) -> Result<(), AllocError>
     requires { AreNets entries.old }
-    ensures { OnOk result (Gained scope.now entries.old entries.new
+    ensures { OnOk result (HasGained scope.now entries.old entries.new
         (part_sources (length entries.old.literal_firsts, part.now))
         (unnamed_count part.now)) }
 {
@@ -107,7 +107,7 @@ fn push_parts(
     parts: &[ModulePart],
 ) -> Result<(), AllocError>
     requires { AreNets entries.old }
-    ensures { OnOk result (Gained scope.now entries.old entries.new
+    ensures { OnOk result (HasGained scope.now entries.old entries.new
         (flat_map part_sources (numbered_from (length entries.old.literal_firsts) parts.now))
         (sum_by unnamed_count parts.now)) }
 {

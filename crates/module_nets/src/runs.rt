@@ -3,7 +3,7 @@ ghost use Rattle.std.specs.Prelude.{◌∷◌, [], length, OnOk};
 ghost use Rattle.std.specs.List.{flat_map};
 ghost use Rattle.netlist_plan.specs.Nets.{run_sources};
 ghost use Rattle.netlist_plan.specs.Unnamed.{literal_count};
-ghost use Rattle.module_nets.specs.Entries.{AreNets, Gained};
+ghost use Rattle.module_nets.specs.Entries.{AreNets, HasGained};
 
 use crate::entries::NetEntries;
 use expression_bits::{BitRun, RunList};
@@ -19,7 +19,7 @@ fn push_run(
     run: &BitRun,
 ) -> Result<(), AllocError>
     requires { AreNets entries.old }
-    ensures { OnOk result (Gained scope.now entries.old entries.new
+    ensures { OnOk result (HasGained scope.now entries.old entries.new
         (run_sources (length entries.old.literal_firsts) (run.now ∷ []))
         (literal_count (run.now ∷ []))) }
 {
@@ -37,7 +37,7 @@ pub fn push_runs(
     runs: &[BitRun],
 ) -> Result<(), AllocError>
     requires { AreNets entries.old }
-    ensures { OnOk result (Gained scope.now entries.old entries.new
+    ensures { OnOk result (HasGained scope.now entries.old entries.new
         (run_sources (length entries.old.literal_firsts) runs.now)
         (literal_count runs.now)) }
 {
@@ -56,7 +56,7 @@ pub fn push_terminals(
 ) -> Result<(), AllocError>
     requires { AreNets entries.old }
     ensures { OnOk result (let runs = flat_map (λ list. list) terminals.now in
-        Gained scope.now entries.old entries.new
+        HasGained scope.now entries.old entries.new
         (run_sources (length entries.old.literal_firsts) runs)
         (literal_count runs)) }
 {
@@ -75,7 +75,7 @@ pub fn push_connections(
 ) -> Result<(), AllocError>
     requires { AreNets entries.old }
     ensures { OnOk result (let runs = flat_map (λ c. c.runs) connections.now in
-        Gained scope.now entries.old entries.new
+        HasGained scope.now entries.old entries.new
         (run_sources (length entries.old.literal_firsts) runs)
         (literal_count runs)) }
 {

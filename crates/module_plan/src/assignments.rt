@@ -4,7 +4,7 @@ ghost use Rattle.netlist_plan.specs.Elements.{copied_bit, copies};
 ghost use Rattle.netlist_plan.specs.Plan.{element_steps};
 
 use crate::elements::{one_bit, push_element, single};
-use crate::numbers::held;
+use crate::numbers::plan_number;
 use element_forms::Strengths;
 use flat_net::ElementKind;
 use netlist_plan::{ElementName, PlanElement, PlanStepList};
@@ -34,7 +34,7 @@ fn copied_bit(
     ensures { IfOk result (λ element.
         element ≡ copied_bit number width strengths item (place, (target, value))) }
 {
-    let index = held(width.saturating_sub(1).saturating_sub(place) as u64)?;
+    let index = plan_number(width.saturating_sub(1).saturating_sub(place) as u64)?;
     let outs = one_bit(alloc, target)?;
     let ins = one_bit(alloc, value)?;
     let name = ElementName::Bit(number, index);

@@ -7,7 +7,7 @@ ghost use Rattle.netlist_plan.specs.Plan.{element_steps};
 
 use crate::bits::literals_in;
 use crate::elements::{no_bits, one_bit, push_element};
-use crate::numbers::{held, held_sum, number_after};
+use crate::numbers::{number_after, plan_number, plan_sum};
 use element_forms::drive_strengths;
 use expression_bits::{BitRun, RunList};
 use flat_net::ElementKind;
@@ -40,8 +40,8 @@ fn constant(
 ) -> Result<PlanElement, AllocError>
     ensures { IfOk result (λ element. element ≡ constant number width first (place, bit)) }
 {
-    let index = held(width.saturating_sub(1).saturating_sub(place) as u64)?;
-    let out = held_sum(first, place as u64)?;
+    let index = plan_number(width.saturating_sub(1).saturating_sub(place) as u64)?;
+    let out = plan_sum(first, place as u64)?;
     Ok(PlanElement {
         name: ElementName::Bit(number, index),
         kind: ElementKind::Constant(bit_value(bit)),

@@ -3,7 +3,7 @@ ghost use Rattle.std.specs.Prelude.{◌≡◌, map, IfOk};
 ghost use Rattle.netlist_plan.specs.Plan.{literal_net, named_net, plan_net};
 
 use crate::names::copied_name;
-use crate::numbers::held;
+use crate::numbers::plan_number;
 use element_forms::net_class;
 use flat_net::NetKind;
 use module_scope::{Scope, ScopeNet};
@@ -55,9 +55,9 @@ fn named_net(
 fn literal_net(number: usize, width: usize, first: u32) -> Result<PlanNet, AllocError>
     ensures { IfOk result (λ made. made ≡ literal_net number width first) }
 {
-    let left = held(width.saturating_sub(1) as u64)?;
+    let left = plan_number(width.saturating_sub(1) as u64)?;
     Ok(PlanNet {
-        name: OwnName::Unnamed(held(number as u64)?),
+        name: OwnName::Unnamed(plan_number(number as u64)?),
         range: Some(RangeBounds { left, right: 0 }),
         class: wire(),
         delay: None,
@@ -69,7 +69,7 @@ fn literal_net(number: usize, width: usize, first: u32) -> Result<PlanNet, Alloc
 fn plan_net(alloc: Global, scope: &Scope, net: &ModuleNet) -> Result<PlanNet, AllocError>
     ensures { IfOk result (λ made. made ≡ plan_net scope.now net.now) }
 {
-    let first = held(net.first)?;
+    let first = plan_number(net.first)?;
     match &net.source {
         NetSource::Named(name) => {
             let name = name.as_slice();

@@ -5,7 +5,7 @@ ghost use Rattle.std.specs.List.{range_with_len};
 use std::alloc::AllocError;
 
 /// A number that a plan holds. One that a `u32` doesn't hold is want of memory.
-pub fn held(number: u64) -> Result<u32, AllocError>
+pub fn plan_number(number: u64) -> Result<u32, AllocError>
     ensures { IfOk result (λ kept. kept ≡ number) }
 {
     if number > u32::MAX as u64 {
@@ -25,17 +25,17 @@ pub fn sum_of(number: u64, more: u64) -> Result<u64, AllocError>
 }
 
 /// A sum of numbers, which a plan holds.
-pub fn held_sum(number: u64, more: u64) -> Result<u32, AllocError>
+pub fn plan_sum(number: u64, more: u64) -> Result<u32, AllocError>
     ensures { IfOk result (λ sum. sum ≡ number + more) }
 {
-    held(sum_of(number, more)?)
+    plan_number(sum_of(number, more)?)
 }
 
 /// The number of a thing that stands so many behind another.
 pub fn number_after(number: u32, count: usize) -> Result<u32, AllocError>
     ensures { IfOk result (λ next. next ≡ number + count) }
 {
-    held_sum(u64::from(number), count as u64)
+    plan_sum(u64::from(number), count as u64)
 }
 
 /// Adds so many numbers, from the first on.
@@ -43,7 +43,7 @@ pub fn push_range(numbers: &mut Vec<u32>, first: u64, count: u64) -> Result<(), 
     ensures { OnOk result (numbers.new.items ≡ numbers.old.items ++ range_with_len first count) }
 {
     for offset in 0..count {
-        numbers.push(held_sum(first, offset)?)?;
+        numbers.push(plan_sum(first, offset)?)?;
     }
     Ok(())
 }

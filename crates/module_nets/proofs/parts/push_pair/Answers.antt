@@ -3,8 +3,8 @@ use Rattle.expression_bits.specs.declared.runs.BitRun.{BitRun}
 use Rattle.module_parts.specs.declared.parts.ModulePart.TheVariants.{Pair}
 use Rattle.netlist_plan.specs.Nets.{part_sources, run_sources}
 use Rattle.netlist_plan.specs.Unnamed.{literal_count, unnamed_count}
-use Rattle.module_nets.specs.Entries.{Gained}
-use Rattle.module_nets.proofs.Gaining.{Gained-behind, Gained-runs, ok_then}
+use Rattle.module_nets.specs.Entries.{HasGained}
+use Rattle.module_nets.proofs.Gaining.{HasGained-behind, HasGained-runs, ok_then}
 use Rattle.module_nets.proofs.parts.push_pair.Goals as goal
 
 pub push_runs-requires : goal.push_runs-requires
@@ -18,14 +18,14 @@ returns c =
     let b = c.count_unnamed.new.self in
     let d = c.push_runs.new.entries in
     let last = c.push_runs-2.new.entries in
-    let target : Gained scope b d (run_sources (length b.literal_firsts) pair.target) (literal_count pair.target) =
-    subst (λ (runs : List BitRun). Gained scope b d (run_sources (length b.literal_firsts) runs) (literal_count runs)) c.as_slice.ensures c.in_ok-push_runs.ensures in
+    let target : HasGained scope b d (run_sources (length b.literal_firsts) pair.target) (literal_count pair.target) =
+    subst (λ (runs : List BitRun). HasGained scope b d (run_sources (length b.literal_firsts) runs) (literal_count runs)) c.as_slice.ensures c.in_ok-push_runs.ensures in
     ok_then c.push_runs-2.result
-    (Gained scope d last (run_sources (length d.literal_firsts) c.as_slice-2.result.now) (literal_count c.as_slice-2.result.now))
-    (Gained scope a last (part_sources (length a.literal_firsts, Pair pair)) (unnamed_count (Pair pair)))
+    (HasGained scope d last (run_sources (length d.literal_firsts) c.as_slice-2.result.now) (literal_count c.as_slice-2.result.now))
+    (HasGained scope a last (part_sources (length a.literal_firsts, Pair pair)) (unnamed_count (Pair pair)))
     c.push_runs-2.ensures
     (λ gained.
-    let value : Gained scope d last (run_sources (length d.literal_firsts) pair.value.runs) (literal_count pair.value.runs) =
-    subst (λ (runs : List BitRun). Gained scope d last (run_sources (length d.literal_firsts) runs) (literal_count runs)) c.as_slice-2.ensures gained in
-    Gained-behind scope a b last (pair.target ++ pair.value.runs) 1 (literal_count (pair.target ++ pair.value.runs))
-    (c.in_ok-count_unnamed.ensures scope) (Gained-runs scope b d last pair.target pair.value.runs target value))
+    let value : HasGained scope d last (run_sources (length d.literal_firsts) pair.value.runs) (literal_count pair.value.runs) =
+    subst (λ (runs : List BitRun). HasGained scope d last (run_sources (length d.literal_firsts) runs) (literal_count runs)) c.as_slice-2.ensures gained in
+    HasGained-behind scope a b last (pair.target ++ pair.value.runs) 1 (literal_count (pair.target ++ pair.value.runs))
+    (c.in_ok-count_unnamed.ensures scope) (HasGained-runs scope b d last pair.target pair.value.runs target value))

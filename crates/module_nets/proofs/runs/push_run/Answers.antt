@@ -4,7 +4,7 @@ use Rattle.expression_bits.specs.declared.runs.BitRun.{BitRun}
 use Rattle.netlist_plan.specs.declared.nets.NetSource.TheVariants.{Literal}
 use Rattle.netlist_plan.specs.Nets.{run_sources}
 use Rattle.netlist_plan.specs.Unnamed.{literal_count}
-use Rattle.module_nets.specs.Entries.{Gained}
+use Rattle.module_nets.specs.Entries.{HasGained}
 use Rattle.module_nets.proofs.Gaining.{ok_then}
 use Rattle.module_nets.proofs.runs.push_run.Goals as goal
 
@@ -14,7 +14,7 @@ returns-in-Literal c =
     let new = c.push_literal.new.self in
     let n = length old.literal_firsts in
     ok_then c.push_literal.result
-    ((scope : Scope) → Gained scope old new (Literal n c.in-Literal.bits ∷ []) 1)
-    (Gained c.args.scope.now old new (run_sources n (c.args.run.now ∷ [])) (literal_count (c.args.run.now ∷ [])))
+    ((scope : Scope) → HasGained scope old new (Literal n c.in-Literal.bits ∷ []) 1)
+    (HasGained c.args.scope.now old new (run_sources n (c.args.run.now ∷ [])) (literal_count (c.args.run.now ∷ [])))
     c.push_literal.ensures
-    (λ gained. subst (λ (run : BitRun). Gained c.args.scope.now old new (run_sources n (run ∷ [])) (literal_count (run ∷ []))) (sym c.in-Literal.is) (gained c.args.scope.now))
+    (λ gained. subst (λ (run : BitRun). HasGained c.args.scope.now old new (run_sources n (run ∷ [])) (literal_count (run ∷ []))) (sym c.in-Literal.is) (gained c.args.scope.now))

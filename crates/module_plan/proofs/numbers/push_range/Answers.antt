@@ -5,8 +5,8 @@ use Rattle.module_plan.proofs.numbers.push_range.Goals as goal
 
 pub loop-offset-preserved : goal.loop-offset-preserved
 loop-offset-preserved c =
-    range-more c.args.first c.loop-offset.offset c.args.numbers.now.items c.loop-offset.numbers.items c.push.new.self.items c.in_ok-held_sum.field-0
-    c.loop-offset.invariant c.in_ok-held_sum.ensures c.in_ok-push.ensures.items
+    range-more c.args.first c.loop-offset.offset c.args.numbers.now.items c.loop-offset.numbers.items c.push.new.self.items c.in_ok-plan_sum.field-0
+    c.loop-offset.invariant c.in_ok-plan_sum.ensures c.in_ok-push.ensures.items
 
 pub returns : goal.returns
 returns c =

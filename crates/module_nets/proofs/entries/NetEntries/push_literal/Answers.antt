@@ -3,7 +3,7 @@ use Rattle.v_lexer.specs.declared.literals.Bit.{Bit}
 use Rattle.netlist_plan.specs.declared.nets.NetSource.TheVariants.{Literal}
 use Rattle.module_nets.specs.declared.entries.NetEntries.{NetEntries}
 use Rattle.module_nets.proofs.Finding.{net_at}
-use Rattle.module_nets.proofs.Gaining.{Gained-literal}
+use Rattle.module_nets.proofs.Gaining.{HasGained-literal}
 use Rattle.module_nets.proofs.entries.NetEntries.push_literal.Goals as goal
 
 pub returns : goal.returns
@@ -17,4 +17,4 @@ returns c = λ scope.
     ∙ ap (λ (n : ℕ). old.nets ++ net_at (Literal n c.in_ok-owned.owned) old.bits ∷ []) number
     ∙ ap (λ (bits : List Bit). old.nets ++ net_at (Literal (length old.literal_firsts) bits) old.bits ∷ []) c.in_ok-owned.ensures in
     let bits : new.bits ≡ old.bits + length literal = c.in_ok-sum.ensures ∙ ap (λ (bits : List Bit). old.bits + length bits) c.as_slice.ensures in
-    Gained-literal scope old c.requires new literal nets refl refl c.in_ok-push.ensures.ok bits
+    HasGained-literal scope old c.requires new literal nets refl refl c.in_ok-push.ensures.ok bits

@@ -4,7 +4,7 @@ use Rattle.netlist_plan.specs.declared.nets.NetSource.TheVariants.{Named}
 use Rattle.netlist_plan.specs.Nets.{source_width}
 use Rattle.module_nets.specs.declared.entries.NetEntries.{NetEntries}
 use Rattle.module_nets.proofs.Finding.{net_at}
-use Rattle.module_nets.proofs.Gaining.{Gained-new}
+use Rattle.module_nets.proofs.Gaining.{HasGained-new}
 use Rattle.module_nets.proofs.entries.NetEntries.push_new.Goals as goal
 
 pub returns : goal.returns
@@ -18,4 +18,4 @@ returns c =
     let names : new.names ≡ old.names ++ name ∷ [] =
     added_name name old.names new.names c.in_ok-add.field-0 c.requires.new c.in_ok-add.ensures.new c.in_ok-add.ensures.names in
     let bits : new.bits ≡ old.bits + source_width c.args.scope.now (Named name) = c.in_ok-bits.ensures ∙ ap (λ (width : ℕ). old.bits + width) c.name_width.ensures in
-    Gained-new c.args.scope.now old c.requires.nets new name c.requires.new nets names c.in_ok-push.ensures.ok refl bits
+    HasGained-new c.args.scope.now old c.requires.nets new name c.requires.new nets names c.in_ok-push.ensures.ok refl bits
