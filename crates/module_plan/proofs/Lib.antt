@@ -1,0 +1,4 @@
+pub mod Walks
+pub mod RunLists
+pub mod Steps
+pub mod References
