@@ -13,6 +13,7 @@ use Rattle.module_parts.specs.declared.parts.ModulePart.{ModulePart}
 use Rattle.netlist_plan.specs.declared.nets.ModuleNet.{ModuleNet}
 use Rattle.netlist_plan.specs.declared.plan.PlanElement.{PlanElement}
 use Rattle.netlist_plan.specs.declared.plan.PlanStep.{PlanStep}
+use Rattle.netlist_plan.specs.declared.plan.SwitchTerminal.{SwitchTerminal}
 use Rattle.netlist_plan.specs.declared.plan.PlanStep.TheVariants.{Element as ElementStep}
 use Rattle.netlist_plan.specs.Unnamed.{literal_count, numbered_from, unnamed_count}
 use Rattle.netlist_plan.specs.Elements.{constants, literal_constants}
@@ -20,7 +21,7 @@ use Rattle.netlist_plan.specs.declared.plan.ModulePlan.{ModulePlan}
 use Rattle.netlist_plan.specs.declared.plan.PlanNet.{PlanNet}
 use Rattle.netlist_plan.specs.declared.plan.PortBits.{PortBits}
 use Rattle.netlist_plan.specs.Nets.{module_nets}
-use Rattle.netlist_plan.specs.Plan.{Given, Meanings, element_steps, module_plan, part_steps, plan_net, port_bits}
+use Rattle.netlist_plan.specs.Plan.{Given, Meanings, element_steps, item_terminals, module_plan, part_steps, plan_net, port_bits}
 use Rattle.module_plan.specs.Surroundings.{given}
 use Rattle.module_nets.proofs.Sources.{literal_count-append, literals_in, numbered_from-push}
 
@@ -89,18 +90,22 @@ module _ (from : Given) where
 
 -- ---- plans
 
-abbrev plan_of : List PlanNet → List PortBits → List PlanStep → ModulePlan
-plan_of nets ports steps = record { nets = nets; ports = ports; steps = steps }
+abbrev plan_of : List PlanNet → List PortBits → List PlanStep → List SwitchTerminal → ModulePlan
+plan_of nets ports steps terminals = record { nets = nets; ports = ports; steps = steps; terminals = terminals }
 
 -- the plan of a module, whose nets and items are known
 pub module_plan-parts : (scope : Scope) (meant : Meanings) (m : Module) (parts : List ModulePart) (nets : List ModuleNet) (items : List Item) → nets ≡ module_nets scope parts → items ≡ m.items →
-    (plan_nets : List PlanNet) (ports : List PortBits) (steps : List PlanStep) → plan_nets ≡ map (plan_net scope) nets → ports ≡ map (port_bits scope nets) (enumerate_from 0 (port_names m.ports)) →
-    steps ≡ flat_map (part_steps (given scope nets items meant)) (numbered_from 0 parts) → plan_of plan_nets ports steps ≡ module_plan scope meant m parts
-module_plan-parts scope meant m parts nets items nets_are items_are plan_nets ports steps first second third =
-    ap (λ (ns : List PlanNet). plan_of ns ports steps) (first ∙ ap (map (plan_net scope)) nets_are)
-    ∙ ap (λ (ps : List PortBits). plan_of (map (plan_net scope) (module_nets scope parts)) ps steps)
+    (plan_nets : List PlanNet) (ports : List PortBits) (steps : List PlanStep) (terminals : List SwitchTerminal) → plan_nets ≡ map (plan_net scope) nets → ports ≡ map (port_bits scope nets) (enumerate_from 0 (port_names m.ports)) →
+    steps ≡ flat_map (part_steps (given scope nets items meant)) (numbered_from 0 parts) → terminals ≡ flat_map (item_terminals scope nets) items → plan_of plan_nets ports steps terminals ≡ module_plan scope meant m parts
+module_plan-parts scope meant m parts nets items nets_are items_are plan_nets ports steps terminals first second third fourth =
+    ap (λ (ns : List PlanNet). plan_of ns ports steps terminals) (first ∙ ap (map (plan_net scope)) nets_are)
+    ∙ ap (λ (ps : List PortBits). plan_of (map (plan_net scope) (module_nets scope parts)) ps steps terminals)
     (second ∙ ap (λ (ns : List ModuleNet). map (port_bits scope ns) (enumerate_from 0 (port_names m.ports))) nets_are)
-    ∙ ap (λ (ss : List PlanStep). plan_of (map (plan_net scope) (module_nets scope parts)) (map (port_bits scope (module_nets scope parts)) (enumerate_from 0 (port_names m.ports))) ss)
+    ∙ ap (λ (ss : List PlanStep). plan_of (map (plan_net scope) (module_nets scope parts)) (map (port_bits scope (module_nets scope parts)) (enumerate_from 0 (port_names m.ports))) ss terminals)
     (third
     ∙ ap (λ (ns : List ModuleNet). flat_map (part_steps (given scope ns items meant)) (numbered_from 0 parts)) nets_are
     ∙ ap (λ (is : List Item). flat_map (part_steps (given scope (module_nets scope parts) is meant)) (numbered_from 0 parts)) items_are)
+    ∙ ap (λ (ts : List SwitchTerminal). plan_of (map (plan_net scope) (module_nets scope parts)) (map (port_bits scope (module_nets scope parts)) (enumerate_from 0 (port_names m.ports))) (flat_map (part_steps (given scope (module_nets scope parts) m.items meant)) (numbered_from 0 parts)) ts)
+    (fourth
+    ∙ ap (λ (ns : List ModuleNet). flat_map (item_terminals scope ns) items) nets_are
+    ∙ ap (flat_map (item_terminals scope (module_nets scope parts))) items_are)

@@ -23,7 +23,7 @@ pub fn bit_at(bits: &[u32], index: usize) -> u32
 }
 
 /// The range of the net of a name, where there is one and it is a vector.
-fn name_range(scope: &Scope, name: &[u8]) -> Option<RangeBounds>
+pub fn name_range(scope: &Scope, name: &[u8]) -> Option<RangeBounds>
     ensures { result ≡ net_range (scope_net scope.now name.now) }
 {
     match scope.net_of(name) {
@@ -43,7 +43,7 @@ fn bit_offset(range: Option<RangeBounds>, index: u32) -> u32
 }
 
 /// How far the leftmost bit of a select is from the left.
-fn select_offset(range: Option<RangeBounds>, select: Option<Select>) -> u32
+pub fn select_offset(range: Option<RangeBounds>, select: Option<Select>) -> u32
     ensures { result ≡ select_offset range select }
 {
     match select {

@@ -14,5 +14,6 @@ mod numbers;
 mod parts;
 mod plans;
 mod ports;
+mod terminals;
 
 pub use plans::module_plan;
