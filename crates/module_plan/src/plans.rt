@@ -10,7 +10,6 @@ use crate::nets::plan_nets;
 use crate::parts::plan_steps;
 use crate::ports::plan_ports;
 use crate::terminals::switch_terminals;
-use list_of::ListOf;
 use module_graph::Reference;
 use module_nets::NetTable;
 use module_parts::ModulePart;
@@ -41,6 +40,6 @@ pub fn module_plan(
         nets: plan_nets(alloc, scope, nets.as_slice())?,
         ports: plan_ports(alloc, scope, &nets, &module.ports)?,
         steps: plan_steps(alloc, scope, &nets, forms.as_slice(), items, parts)?,
-        terminals: ListOf::from_vec(switch_terminals(alloc, scope, &nets, items)?),
+        terminals: switch_terminals(alloc, scope, &nets, items)?,
     })
 }

@@ -13,7 +13,7 @@ use expression_bits::{BitRun, place_runs};
 use item_parts::location_of;
 use module_nets::NetTable;
 use module_scope::Scope;
-use netlist_plan::SwitchTerminal;
+use netlist_plan::{SwitchTerminal, SwitchTerminalList};
 use std::alloc::{AllocError, Global};
 use v_tree::{Expr, GateItem, Item, Location, Select, Terms};
 
@@ -175,13 +175,12 @@ pub fn switch_terminals(
     scope: &Scope,
     nets: &NetTable,
     items: &[Item],
-) -> Result<Vec<SwitchTerminal>, AllocError>
-    ensures { IfOk result (λ list.
-        list.items ≡ flat_map (item_terminals scope.now nets.now) items.now) }
+) -> Result<SwitchTerminalList, AllocError>
+    ensures { IfOk result (λ list. list ≡ flat_map (item_terminals scope.now nets.now) items.now) }
 {
     let mut list = Vec::new(alloc);
     for item in items {
         push_item(alloc, &mut list, scope, nets, item)?;
     }
-    Ok(list)
+    Ok(SwitchTerminalList::from_vec(list))
 }

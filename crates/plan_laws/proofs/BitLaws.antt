@@ -140,7 +140,7 @@ among_new sources number (LiteralRun bits ∷ runs) h = (new_has_literal number 
 -- ---- their bits
 
 module _ (scope : Scope) where
-  abbrev width_of_name : List ℕ → ℕ
+  abbrev pub width_of_name : List ℕ → ℕ
   width_of_name name = range_width (net_range (scope_net scope name))
 
   pub name_within : (name : List ℕ) (first : ℕ) (sources : List NetSource) → has_name name sources ≡ true

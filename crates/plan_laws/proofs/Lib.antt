@@ -1,4 +1,6 @@
-mod SourceLaws
-mod RowLaws
-mod BitLaws
-mod WithinLaws
+pub mod SourceLaws
+pub mod RowLaws
+pub mod BitLaws
+pub mod WithinLaws
+pub mod GateLaws
+pub mod PortLaws

@@ -1,1 +1,2 @@
 pub mod SoundRuns
+pub mod SoundGates
