@@ -153,8 +153,8 @@ module _ (none : Delays) (udps : List Primitive) (claims : List NetClaim) (input
       each_weaker (λ e. All (λ end. combination_kind (class_at given end).kind ≡ Plain) (end_nets e.ends)) (λ e. AllByRecursion (λ end. end ≡ k → ⊥) (end_nets e.ends)) a.elements
       (λ e ends. each_weaker (λ end. combination_kind (class_at given end).kind ≡ Plain) (λ end. end ≡ k → ⊥) (end_nets e.ends)
       (λ end is same.
-        let at : class_at given k ≡ class_of part = ap (λ cs. class_at cs k) (sym grouped.nets) ∙ class_there whole.nets k part here in
-        wired (ap (λ c. combination_kind c.kind) (sym at) ∙ subst (λ j. combination_kind (class_at given j).kind ≡ Plain) same is))
+      let at : class_at given k ≡ class_of part = ap (λ cs. class_at cs k) (sym grouped.nets) ∙ class_there whole.nets k part here in
+      wired (ap (λ c. combination_kind c.kind) (sym at) ∙ subst (λ j. combination_kind (class_at given j).kind ≡ Plain) same is))
       (each_from_All (λ end. combination_kind (class_at given end).kind ≡ Plain) (end_nets e.ends) ends))
       (each_from_All (λ e. All (λ end. combination_kind (class_at given end).kind ≡ Plain) (end_nets e.ends)) a.elements plain)
 
@@ -162,7 +162,7 @@ module _ (none : Delays) (udps : List Primitive) (claims : List NetClaim) (input
       → IsSomeAnd (slice_get whole.islands part.island) (λ island. (length island.nets ≡ 1) × (island.links ≡ []))
   alone plain k part here wired =
       let found = some_of (λ (island : Island). slice_get island.nets part.place ≡ Some k) (slice_get whole.islands part.island)
-          (Gives-places given a.elements a.resistive valid whole grouped k part here) in
+      (Gives-places given a.elements a.resistive valid whole grouped k part here) in
       let is = Gives-islands given a.elements a.resistive valid whole grouped part.island found.0 found.1 in
       and_some (λ (island : Island). (length island.nets ≡ 1) × (island.links ≡ [])) (slice_get whole.islands part.island) found.0 found.1
       (island-alone whole (Gives-joined given a.elements a.resistive valid whole grouped) part.island found.0 is k part here refl (no_ends k part plain here wired))
@@ -210,5 +210,5 @@ pub flat_parts-sound : (none : Delays) (udps : List Primitive) (inputs outputs :
 flat_parts-sound none udps inputs outputs a sound few_nets few_elements plain ins outs =
     let count : length (net_claims a) ≡ length a.net_names = length_map (claim_on a.claims) (range_with_len 0 (length a.net_names)) ∙ length_range 0 (length a.net_names) in
     let charges = claim_charges a (range_with_len 0 (length a.net_names))
-        (each_weaker (IsClaim (length a.net_names)) (λ (c : ℕ × NetClaim). HasClaimCharge c.1) a.claims (λ c is. is.1) (each_from_All (IsClaim (length a.net_names)) a.claims sound.claims)) in
+    (each_weaker (IsClaim (length a.net_names)) (λ (c : ℕ × NetClaim). HasClaimCharge c.1) a.claims (λ c is. is.1) (each_from_All (IsClaim (length a.net_names)) a.claims sound.claims)) in
     parts-sound none udps (net_claims a) inputs outputs a sound count charges few_nets few_elements plain ins outs

@@ -80,9 +80,9 @@ module _ {X : Type 0} where
   apart_distinct [] h = tt
   apart_distinct (x ∷ xs) h = (
     each_from_at (Differ x) xs (λ k y e same.
-      let first : slice_get (x ∷ xs) 0 ≡ Some y = ap (λ (z : X). Some z) same in
-      let never : 0 ≡ suc k = h 0 (suc k) y first e in
-      omega arith),
+        let first : slice_get (x ∷ xs) 0 ≡ Some y = ap (λ (z : X). Some z) same in
+        let never : 0 ≡ suc k = h 0 (suc k) y first e in
+        omega arith),
     apart_distinct xs (λ i j y e f. let same : suc i ≡ suc j = h (suc i) (suc j) y e f in omega arith),
   )
 

@@ -22,7 +22,7 @@ module _ {X : Type 0} where
   range_apart r a zero d = tt
   range_apart r a (suc n) d = (
     each_map (Differ (r a)) r (range_with_len (a + 1) n)
-    (each_range (λ k. Differ (r a) (r k)) (a + 1) n (λ k least less. d a k (omega arith) (omega arith) (omega arith))),
+        (each_range (λ k. Differ (r a) (r k)) (a + 1) n (λ k least less. d a k (omega arith) (omega arith) (omega arith))),
     range_apart r (a + 1) n (λ j k least less most. d j k (omega arith) less (omega arith)),
   )
 

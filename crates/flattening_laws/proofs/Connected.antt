@@ -1,12 +1,12 @@
 -- How many bits of a module aren't connected in an instance: all but those of the ports that are.
 use Rattle.std.proofs.Common.{◌≡◌, ℕ, zero, suc, ◌+◌, ◌<◌, ◌≤◌, min, Bool, true, false, List, [], ◌∷◌, ◌++◌, length, map, take, Option, Some, None, refl, sym, ap, subst, ◌∙◌, arith}
 use Rattle.std.specs.Prelude.{slice_get, slice_index_or, nat_eq, if◌then◌else◌}
-use Rattle.std.specs.Option.{IsSomeAnd, option_map_or}
+use Rattle.std.specs.Option.{option_map_or}
 use Rattle.std.specs.List.{AllByRecursion, flat_map, range_with_len, zip}
 use Rattle.std.proofs.lemmas.Bool.{eq-eqb, eqb-true}
 use Rattle.netlist_plan.specs.declared.plan.PortBits.{PortBits}
 use Rattle.netlist_plan.specs.Flattening.{bound_numbers, is_bound, number_outside, numbers_of, port_numbers}
-use Rattle.flattening_laws.specs.SoundPlans.{IsConnection, ports_bits}
+use Rattle.flattening_laws.specs.SoundPlans.{ports_bits}
 use Rattle.flattening_laws.specs.Counts.{connected_count}
 use Rattle.flattening_laws.proofs.Apart.{AreApart, Differ, apart_append, each_append, each_weaker}
 use Rattle.flattening_laws.proofs.TreeNames.{map_append}
@@ -268,8 +268,8 @@ pub unbound_count : (count : ℕ) (numbers : List ℕ) (ports connections : List
 unbound_count count numbers ports connections once apart within =
     let keys = keys_of ports connections in
     let free_are : unbound (bound_numbers numbers ports connections) (range_with_len 0 count) ≡ free keys (range_with_len 0 count)
-        = unbound_is_free (bound_numbers numbers ports connections) (range_with_len 0 count)
-        ∙ ap (λ ks. free ks (range_with_len 0 count)) (keys_are numbers ports connections) in
+    = unbound_is_free (bound_numbers numbers ports connections) (range_with_len 0 count)
+    ∙ ap (λ ks. free ks (range_with_len 0 count)) (keys_are numbers ports connections) in
     let counted = free_count keys count (keys_apart ports connections apart once) (each_key (λ bit. bit < count) ports connections within) in
     let many = keys_count ports connections in
     omega arith

@@ -1,7 +1,6 @@
 -- A flattening has as many nets and elements as the counts of the hierarchy say.
 use Rattle.std.proofs.Common.{◌≡◌, ℕ, zero, suc, ◌+◌, ◌<◌, List, [], ◌∷◌, ◌++◌, length, map, refl, sym, ap, ◌∙◌, arith}
-use Rattle.std.specs.Prelude.{slice_get, slice_index_or, sum_by}
-use Rattle.std.specs.Option.{IsSomeAnd}
+use Rattle.std.specs.Prelude.{slice_index_or, sum_by}
 use Rattle.std.specs.List.{All, AllByRecursion, range_with_len}
 use Rattle.std.proofs.lemmas.List.Sums.{sum_by-cons}
 use Rattle.udp_table.specs.Primitive.{Primitive}
@@ -11,9 +10,8 @@ use Rattle.hierarchy_counts.specs.Hierarchy.{Measure, Nets, Elements, inside, in
 use Rattle.netlist_plan.specs.declared.plan.PlanInstance.{PlanInstance}
 use Rattle.netlist_plan.specs.declared.plan.PlanStep.{PlanStep}
 use Rattle.netlist_plan.specs.declared.plan.PlanStep.TheVariants.{Element as ElementStep, Instance as InstanceStep}
-use Rattle.netlist_plan.specs.declared.plan.ModulePlan.{ModulePlan}
 use Rattle.netlist_plan.specs.Flattening.{Hierarchy, Inner, Place, additions, bit_count, bound_numbers, flattening, nets_additions, no_plan, place_of, plan_at, step_additions, steps_additions}
-use Rattle.flattening_laws.specs.SoundPlans.{IsConnection, IsPlanInstance, IsPlanStep, IsSoundPlan, ports_bits}
+use Rattle.flattening_laws.specs.SoundPlans.{IsPlanInstance, IsPlanStep, IsSoundPlan, ports_bits}
 use Rattle.flattening_laws.specs.Counts.{all_instance_counts, all_module_counts, element_list, instance_counts, instance_list, module_counts}
 use Rattle.flattening_laws.proofs.Apart.{apart_distinct, each_from_All}
 use Rattle.flattening_laws.proofs.Numbers.{length_append, length_range, own_nets, unbound}
@@ -101,7 +99,7 @@ module _ (h : Hierarchy) where
       let f = λ (i : PlanInstance). instance_own Elements (all_module_counts h.plans) (instance_counts h.plans i) + inside Elements (all_module_counts h.plans) (all_instance_counts h.plans) levels i.master in
       steps_elements (additions h (suc levels)) at f
       (λ i n. elements_count levels i.master (at.path ++ Written i.name ∷ []) (bound_numbers at.numbers (plan_at h i.master).ports i.connections) n
-        ∙ ap (λ (m : ModuleCounts). m.elements + inside Elements (all_module_counts h.plans) (all_instance_counts h.plans) levels i.master) (sym (module_is i.master))) then (plan_at h master).steps
+      ∙ ap (λ (m : ModuleCounts). m.elements + inside Elements (all_module_counts h.plans) (all_instance_counts h.plans) levels i.master) (sym (module_is i.master))) then (plan_at h master).steps
       ∙ ap (λ n. length (element_list (plan_at h master).steps) + n) (sym (inside_is Elements levels master))
 
   -- ---- nets
@@ -110,18 +108,18 @@ module _ (h : Hierarchy) where
     -- the nets that an instance adds by itself are those that its counts give
     instance_nets : (bits : ℕ) (numbers : List ℕ) (i : PlanInstance) → IsPlanInstance bits i
         → unbound (bound_numbers numbers (plan_at h i.master).ports i.connections) (range_with_len 0 (bit_count (plan_at h i.master).nets))
-          ≡ instance_own Nets (all_module_counts h.plans) (instance_counts h.plans i)
+        ≡ instance_own Nets (all_module_counts h.plans) (instance_counts h.plans i)
     instance_nets bits numbers i is =
         let inner = plan_at h i.master in
         let of = sound i.master in
         let whole = unbound_count (bit_count inner.nets) numbers inner.ports i.connections
-            (apart_distinct (map (λ c. c.port) i.connections) is.once) (apart_distinct (ports_bits inner.ports) of.apart) (each_from_All (λ bit. bit < bit_count inner.nets) (ports_bits inner.ports) of.ports) in
+        (apart_distinct (map (λ c. c.port) i.connections) is.once) (apart_distinct (ports_bits inner.ports) of.apart) (each_from_All (λ bit. bit < bit_count inner.nets) (ports_bits inner.ports) of.ports) in
         let own : (module_at (all_module_counts h.plans) i.master).nets ≡ bit_count inner.nets = ap (λ (m : ModuleCounts). m.nets) (module_is i.master) in
         omega arith
 
     nets_count : (levels master : ℕ) (path : List Own) (outside : List (ℕ × ℕ)) (next : ℕ)
         → length (additions h (suc levels) master path outside next).net_names
-          ≡ unbound outside (range_with_len 0 (bit_count (plan_at h master).nets)) + inside Nets (all_module_counts h.plans) (all_instance_counts h.plans) levels master
+        ≡ unbound outside (range_with_len 0 (bit_count (plan_at h master).nets)) + inside Nets (all_module_counts h.plans) (all_instance_counts h.plans) levels master
     unfolding additions inside
     nets_count zero master path outside next =
         let at = place_of h master path outside next in
@@ -131,8 +129,8 @@ module _ (h : Hierarchy) where
         length_append own_names (steps_additions (additions h zero) h at then plan.steps).net_names
         ∙ ap (λ n. n + length (steps_additions (additions h zero) h at then plan.steps).net_names) (own_nets h master path outside next (sound master).row)
         ∙ ap (λ n. unbound outside (range_with_len 0 (bit_count plan.nets)) + n)
-          (steps_nets (IsPlanStep udps (bit_count plan.nets)) (additions h zero) at (λ i. 0) (λ i n is. refl) then plan.steps (each_from_All (IsPlanStep udps (bit_count plan.nets)) plan.steps (sound master).steps)
-          ∙ sum_zero (instance_list plan.steps))
+        (steps_nets (IsPlanStep udps (bit_count plan.nets)) (additions h zero) at (λ i. 0) (λ i n is. refl) then plan.steps (each_from_All (IsPlanStep udps (bit_count plan.nets)) plan.steps (sound master).steps)
+        ∙ sum_zero (instance_list plan.steps))
     nets_count (suc levels) master path outside next =
         let at = place_of h master path outside next in
         let plan = plan_at h master in
@@ -142,11 +140,11 @@ module _ (h : Hierarchy) where
         length_append own_names (steps_additions (additions h (suc levels)) h at then plan.steps).net_names
         ∙ ap (λ n. n + length (steps_additions (additions h (suc levels)) h at then plan.steps).net_names) (own_nets h master path outside next (sound master).row)
         ∙ ap (λ n. unbound outside (range_with_len 0 (bit_count plan.nets)) + n)
-          (steps_nets (IsPlanStep udps (bit_count plan.nets)) (additions h (suc levels)) at f
-          (λ i n is. nets_count levels i.master (at.path ++ Written i.name ∷ []) (bound_numbers at.numbers (plan_at h i.master).ports i.connections) n
-            ∙ ap (λ k. k + inside Nets (all_module_counts h.plans) (all_instance_counts h.plans) levels i.master) (instance_nets (bit_count plan.nets) at.numbers i is)) then plan.steps
-          (each_from_All (IsPlanStep udps (bit_count plan.nets)) plan.steps (sound master).steps)
-          ∙ sym (inside_is Nets levels master))
+        (steps_nets (IsPlanStep udps (bit_count plan.nets)) (additions h (suc levels)) at f
+        (λ i n is. nets_count levels i.master (at.path ++ Written i.name ∷ []) (bound_numbers at.numbers (plan_at h i.master).ports i.connections) n
+        ∙ ap (λ k. k + inside Nets (all_module_counts h.plans) (all_instance_counts h.plans) levels i.master) (instance_nets (bit_count plan.nets) at.numbers i is)) then plan.steps
+        (each_from_All (IsPlanStep udps (bit_count plan.nets)) plan.steps (sound master).steps)
+        ∙ sym (inside_is Nets levels master))
 
 -- ---- the laws
 
@@ -163,7 +161,7 @@ pub flattening-nets : (udps : List Primitive) (h : Hierarchy) → All (IsSoundPl
     → length (flattening h top).net_names ≡ whole Nets (all_module_counts h.plans) (all_instance_counts h.plans) 63 top
 flattening-nets udps h plans top =
     let sound : (master : ℕ) → IsSoundPlan udps (plan_at h master)
-        = λ master. plan_is (IsSoundPlan udps) h.plans master (none_sound udps) (each_from_All (IsSoundPlan udps) h.plans plans) in
+    = λ master. plan_is (IsSoundPlan udps) h.plans master (none_sound udps) (each_from_All (IsSoundPlan udps) h.plans plans) in
     nets_count h udps sound 63 top [] [] 0
     ∙ ap (λ n. n + inside Nets (all_module_counts h.plans) (all_instance_counts h.plans) 63 top)
-      (unbound_all (range_with_len 0 (bit_count (plan_at h top).nets)) ∙ length_range 0 (bit_count (plan_at h top).nets) ∙ sym (ap (λ (m : ModuleCounts). m.nets) (module_is h top)))
+    (unbound_all (range_with_len 0 (bit_count (plan_at h top).nets)) ∙ length_range 0 (bit_count (plan_at h top).nets) ∙ sym (ap (λ (m : ModuleCounts). m.nets) (module_is h top)))

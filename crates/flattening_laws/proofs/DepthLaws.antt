@@ -62,5 +62,5 @@ module _ (h : Hierarchy) where
       let one_more : suc levels + more ≡ suc (levels + more) = omega arith in
       ap (λ n. additions h n master path outside next) one_more
       ∙ ap (joined own) (steps_same (additions h (levels + more)) (additions h levels) at then plan.steps
-        (each_weaker (λ (i : PlanInstance). levels_inside (all_instance_counts h.plans) levels i.master < levels) (SameFor (additions h (levels + more)) (additions h levels)) (instance_list plan.steps)
-        (λ i less path outside next. additions-whole levels more i.master path outside next less) (fewer levels master few)))
+      (each_weaker (λ (i : PlanInstance). levels_inside (all_instance_counts h.plans) levels i.master < levels) (SameFor (additions h (levels + more)) (additions h levels)) (instance_list plan.steps)
+      (λ i less path outside next. additions-whole levels more i.master path outside next less) (fewer levels master few)))

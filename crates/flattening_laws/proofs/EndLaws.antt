@@ -1,20 +1,17 @@
 -- The ends of bidirectional switches are nets at terminals.
-use Rattle.std.proofs.Common.{◌≡◌, ℕ, zero, suc, ◌+◌, ◌<◌, List, [], ◌∷◌, ◌++◌, length, map, Option, Some, None, subst}
+use Rattle.std.proofs.Common.{ℕ, zero, suc, ◌+◌, List, [], ◌∷◌, ◌++◌, length, map, Option, Some, None, subst}
 use Rattle.std.specs.Prelude.{slice_index_or}
 use Rattle.std.specs.Option.{option_map}
 use Rattle.std.specs.List.{All, AllByRecursion, Contains}
 use Rattle.v_tree.specs.declared.locations.Location.{Location}
 use Rattle.udp_table.specs.Primitive.{Primitive}
-use Rattle.flat_net.specs.declared.parts.Element.{Element}
 use Rattle.flat_net.specs.Elements.{end_nets}
 use Rattle.flat_names.specs.Spelling.{Own, Written}
 use Rattle.netlist_plan.specs.declared.plan.PlanElement.{PlanElement}
-use Rattle.netlist_plan.specs.declared.plan.PlanInstance.{PlanInstance}
 use Rattle.netlist_plan.specs.declared.plan.PlanStep.{PlanStep}
 use Rattle.netlist_plan.specs.declared.plan.PlanStep.TheVariants.{Element as ElementStep, Instance as InstanceStep}
 use Rattle.netlist_plan.specs.declared.plan.SwitchTerminal.{SwitchTerminal}
-use Rattle.netlist_plan.specs.declared.plan.ModulePlan.{ModulePlan}
-use Rattle.netlist_plan.specs.Additions.{Additions, joined, nothing}
+use Rattle.netlist_plan.specs.Additions.{Additions}
 use Rattle.netlist_plan.specs.Flattening.{Hierarchy, Inner, Place, additions, bound_numbers, end_numbers, flat_element, flattening, nets_additions, place_of, plan_at, step_additions, steps_additions, terminal_number}
 use Rattle.flattening_laws.specs.SoundPlans.{HasTerminals, IsSoundPlan}
 use Rattle.flattening_laws.proofs.Apart.{All_from_each, each_append, each_from_All, each_map, each_of_map, each_weaker}
@@ -71,7 +68,7 @@ module _ (P : ℕ → Type 0) (h : Hierarchy) where
       let split = each_parts (λ (t : ℕ × Location). P t.0) own.terminals rest.terminals all in
       let bits = map (λ (t : SwitchTerminal). t.bit) plan.terminals in
       let each : AllByRecursion (λ b. P (slice_index_or at.numbers b 0)) bits
-          = each_map (λ b. P (slice_index_or at.numbers b 0)) (λ (t : SwitchTerminal). t.bit) plan.terminals (each_of_map (λ (t : ℕ × Location). P t.0) (terminal_number at) plan.terminals split.0) in
+      = each_map (λ b. P (slice_index_or at.numbers b 0)) (λ (t : SwitchTerminal). t.bit) plan.terminals (each_of_map (λ (t : ℕ × Location). P t.0) (terminal_number at) plan.terminals split.0) in
       steps_ends (additions h levels) at bits then plan.steps (additions_ends has levels) each (each_from_All (HasTerminals bits) plan.steps (has master)) split.1
 
 -- what holds of the nets at terminals holds of those at ends
@@ -79,7 +76,7 @@ pub flattening-ends : (udps : List Primitive) (h : Hierarchy) → All (IsSoundPl
     → All (λ (t : ℕ × Location). P t.0) (flattening h top).terminals → All (λ e. All P (end_nets e.ends)) (flattening h top).elements
 flattening-ends udps h plans P top all =
     let sound : (master : ℕ) → IsSoundPlan udps (plan_at h master)
-        = λ master. plan_is (IsSoundPlan udps) h.plans master (none_sound udps) (each_from_All (IsSoundPlan udps) h.plans plans) in
+    = λ master. plan_is (IsSoundPlan udps) h.plans master (none_sound udps) (each_from_All (IsSoundPlan udps) h.plans plans) in
     let a = flattening h top in
     let each = additions_ends P h (λ master. (sound master).ends) 64 top [] [] 0 (each_from_All (λ (t : ℕ × Location). P t.0) a.terminals all) in
     All_from_each (λ e. All P (end_nets e.ends)) a.elements (each_weaker (λ e. AllByRecursion P (end_nets e.ends)) (λ e. All P (end_nets e.ends)) a.elements (λ e of. All_from_each P (end_nets e.ends) of) each)

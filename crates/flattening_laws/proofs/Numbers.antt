@@ -79,7 +79,7 @@ numbers_small outside next (bit ∷ bits) h =
     by_number : AllByRecursion (λ n. n < next + unbound outside bits) (numbers_from outside next bits)
         → AllByRecursion (λ n. n < next + 1 + unbound outside bits) (numbers_from outside (next + 1) bits) → (o : Option ℕ) → number_outside outside bit ≡ o
         → AllByRecursion (λ n. n < next + (one_if_not (option_map_or (λ number. true) o false) + unbound outside bits))
-          (option_map_or (λ number. number) o next ∷ numbers_from outside (if option_map_or (λ number. true) o false then next else next + 1) bits)
+        (option_map_or (λ number. number) o next ∷ numbers_from outside (if option_map_or (λ number. true) o false then next else next + 1) bits)
     by_number same more None e = (omega arith, each_weaker (λ n. n < next + 1 + unbound outside bits) (λ n. n < next + (1 + unbound outside bits)) (numbers_from outside (next + 1) bits) (λ n less. omega arith) more)
     by_number same more (Some number) e =
         let less = number_small next outside bit number h e in

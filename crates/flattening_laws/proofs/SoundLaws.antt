@@ -9,7 +9,6 @@ use Rattle.flat_names.specs.Spelling.{Own, Written, FlatName, spelling, IsFlatNa
 use Rattle.flat_names.proofs.SpellingLaws.{spelling-ascii, spelling-distinct}
 use Rattle.netlist_plan.specs.declared.plan.PlanStep.{PlanStep}
 use Rattle.netlist_plan.specs.declared.plan.PlanStep.TheVariants.{Element as ElementStep, Instance as InstanceStep}
-use Rattle.netlist_plan.specs.declared.plan.ModulePlan.{ModulePlan}
 use Rattle.netlist_plan.specs.Additions.{Additions, joined}
 use Rattle.netlist_plan.specs.Flattening.{Hierarchy, Inner, Place, additions, bit_count, bound_numbers, flattening, nets_additions, no_plan, place_of, plan_at, step_additions, steps_additions}
 use Rattle.flattening_laws.specs.SoundPlans.{HasTerminals, IsPlanNet, IsPlanStep, IsSoundPlan}
@@ -43,8 +42,7 @@ none_sound udps = record {
 names_sound : (tree : List FlatName) (names : List (List ℕ)) → names ≡ map (spelled []) tree → AllByRecursion IsFlatName tree → AreApart tree → All IsAscii names × AreDistinct names
 names_sound tree names same named apart =
     let each : AllByRecursion IsAscii (map spelling tree) = each_map IsAscii spelling tree (each_weaker IsFlatName (λ n. IsAscii (spelling n)) tree (λ n is. spelling-ascii n is) named) in
-    let differ : AreApart (map spelling tree) = apart_map_of IsFlatName spelling tree (λ a b is at e. spelling-distinct a b is at e) named apart in
-    (
+    let differ : AreApart (map spelling tree) = apart_map_of IsFlatName spelling tree (λ a b is at e. spelling-distinct a b is at e) named apart in (
       subst (λ (ns : List (List ℕ)). All IsAscii ns) (sym same) (All_from_each IsAscii (map spelling tree) each),
       subst (λ (ns : List (List ℕ)). AreDistinct ns) (sym same) (distinct_apart (map spelling tree) differ),
     )
@@ -163,23 +161,23 @@ module _ (udps : List Primitive) (h : Hierarchy) (sound : (master : ℕ) → IsS
 pub additions-sound : (udps : List Primitive) (h : Hierarchy) → All (IsSoundPlan udps) h.plans → (levels top : ℕ) → AreSoundAdditions udps (additions h levels top [] [] 0)
 additions-sound udps h plans levels top =
     let sound : (master : ℕ) → IsSoundPlan udps (plan_at h master)
-        = λ master. plan_is (IsSoundPlan udps) h.plans master (none_sound udps) (each_from_All (IsSoundPlan udps) h.plans plans) in
+    = λ master. plan_is (IsSoundPlan udps) h.plans master (none_sound udps) (each_from_All (IsSoundPlan udps) h.plans plans) in
     let a = additions h levels top [] [] 0 in
     let n = length a.net_names in
     let within = additions_within udps h sound levels top [] [] 0 tt in
     let count : 0 + n ≡ n = omega arith in
     let nets = names_sound (name_tree net_records no_names h levels top [] [] 0) a.net_names
-        (tree_agrees net_records no_names h (λ x. x.net_names) (net_list h) levels top [] [] 0)
-        (tree_named net_records no_names h (net_plans_named udps h sound) levels top [] [] 0)
-        (tree_apart net_records no_names h (net_plans_apart udps h sound) levels top [] [] 0) in
+    (tree_agrees net_records no_names h (λ x. x.net_names) (net_list h) levels top [] [] 0)
+    (tree_named net_records no_names h (net_plans_named udps h sound) levels top [] [] 0)
+    (tree_apart net_records no_names h (net_plans_apart udps h sound) levels top [] [] 0) in
     let elements = names_sound (name_tree no_records element_names h levels top [] [] 0) a.element_names
-        (tree_agrees no_records element_names h (λ x. x.element_names) (element_list h) levels top [] [] 0)
-        (tree_named no_records element_names h (element_plans_named udps h sound) levels top [] [] 0)
-        (tree_apart no_records element_names h (element_plans_apart udps h sound) levels top [] [] 0) in
+    (tree_agrees no_records element_names h (λ x. x.element_names) (element_list h) levels top [] [] 0)
+    (tree_named no_records element_names h (element_plans_named udps h sound) levels top [] [] 0)
+    (tree_apart no_records element_names h (element_plans_apart udps h sound) levels top [] [] 0) in
     let finds = names_sound (name_tree find_records no_names h levels top [] [] 0) (map (λ found. found.name) a.finds)
-        (tree_agrees find_records no_names h (λ x. map (λ found. found.name) x.finds) (find_list h) levels top [] [] 0)
-        (tree_named find_records no_names h (find_plans_named udps h sound) levels top [] [] 0)
-        (tree_apart find_records no_names h (find_plans_apart udps h sound) levels top [] [] 0) in
+    (tree_agrees find_records no_names h (λ x. map (λ found. found.name) x.finds) (find_list h) levels top [] [] 0)
+    (tree_named find_records no_names h (find_plans_named udps h sound) levels top [] [] 0)
+    (tree_apart find_records no_names h (find_plans_apart udps h sound) levels top [] [] 0) in
     let each = additions_each udps h sound levels top [] [] 0 in
     record {
       net_names = record { all = refl; ascii = nets.0; distinct = nets.1 };

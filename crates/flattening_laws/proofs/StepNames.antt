@@ -40,17 +40,17 @@ later s ss h = (
 
 unlike : (s : PlanStep) (ss : List PlanStep) → AreStepNames (s ∷ ss) → AllByRecursion (λ t. AreUnlike (step_name s) (step_name t)) ss
 unlike s ss h = each_from_at (λ t. AreUnlike (step_name s) (step_name t)) ss (λ k t e.
-  let at : slice_get (map step_name ss) k ≡ Some (step_name t) = get_map step_name ss k t e in
-  record {
-    differ = λ same.
-      let first : slice_get (map step_name (s ∷ ss)) 0 ≡ Some (step_name t) = ap (λ (z : ElementName). Some z) same in
-      let never : 0 ≡ suc k = h.0 0 (suc k) (step_name t) first at in
-      omega arith;
-    no_half = λ own on_one half gate.
-      h.1 0 (suc k) own on_one (ap (λ (z : ElementName). Some z) half) (at ∙ ap (λ (z : ElementName). Some z) gate);
-    not_halved = λ own on_one half gate.
-      h.1 (suc k) 0 own on_one (at ∙ ap (λ (z : ElementName). Some z) half) (ap (λ (z : ElementName). Some z) gate);
-  })
+    let at : slice_get (map step_name ss) k ≡ Some (step_name t) = get_map step_name ss k t e in
+    record {
+      differ = λ same.
+          let first : slice_get (map step_name (s ∷ ss)) 0 ≡ Some (step_name t) = ap (λ (z : ElementName). Some z) same in
+          let never : 0 ≡ suc k = h.0 0 (suc k) (step_name t) first at in
+          omega arith;
+      no_half = λ own on_one half gate.
+          h.1 0 (suc k) own on_one (ap (λ (z : ElementName). Some z) half) (at ∙ ap (λ (z : ElementName). Some z) gate);
+      not_halved = λ own on_one half gate.
+          h.1 (suc k) 0 own on_one (at ∙ ap (λ (z : ElementName). Some z) half) (ap (λ (z : ElementName). Some z) gate);
+    })
 
 -- ---- the first part of a path
 
@@ -90,11 +90,14 @@ module _ (mine : List Bool → ModulePlan → List FlatName) (h : Hierarchy) whe
       let rest = later (ElementStep e) ss (d, k) in
       (tt, (tt, instances_apart ss rest.0 rest.1))
   instances_apart (InstanceStep i ∷ ss) d k =
-      let rest = later (InstanceStep i) ss (d, k) in
-      (tt, (
-        λ n. each_weaker (λ t. AreUnlike (Gate (Written i.name)) (step_name t)) (StepHas mine no_names h (Differ (inside_of (WrittenOwn i.name) n))) ss
-        (λ t u. instance_unlike i.name n t u.differ) (unlike (InstanceStep i) ss (d, k)),
-        instances_apart ss rest.0 rest.1))
+      let rest = later (InstanceStep i) ss (d, k) in (
+        tt,
+        (
+          λ n. each_weaker (λ t. AreUnlike (Gate (Written i.name)) (step_name t)) (StepHas mine no_names h (Differ (inside_of (WrittenOwn i.name) n))) ss
+              (λ t u. instance_unlike i.name n t u.differ) (unlike (InstanceStep i) ss (d, k)),
+          instances_apart ss rest.0 rest.1,
+        ),
+      )
 
   own_from : (x : FlatName) → x.path ≡ [] → (s : PlanStep) → StepHas mine no_names h (Differ x) s
   own_from x own (ElementStep e) = tt
@@ -192,14 +195,23 @@ module _ (mine : List Bool → ModulePlan → List FlatName) (h : Hierarchy) whe
   pub elements_apart : (ss : List PlanStep) → AreDistinct (map step_name ss) → AreNotHalved (map step_name ss) → StepsApart mine element_names h ss
   elements_apart [] d k = tt
   elements_apart (ElementStep e ∷ ss) d k =
-      let rest = later (ElementStep e) ss (d, k) in
-      ((tt, tt), (
-        (each_weaker (λ t. AreUnlike e.name (step_name t)) (StepHas mine element_names h (Differ (element_record e.name))) ss
-        (λ t u. element_unlike e.name t u) (unlike (ElementStep e) ss (d, k)), tt),
-        elements_apart ss rest.0 rest.1))
+      let rest = later (ElementStep e) ss (d, k) in (
+        (tt, tt),
+        (
+          (
+            each_weaker (λ t. AreUnlike e.name (step_name t)) (StepHas mine element_names h (Differ (element_record e.name))) ss
+                (λ t u. element_unlike e.name t u) (unlike (ElementStep e) ss (d, k)),
+            tt,
+          ),
+          elements_apart ss rest.0 rest.1,
+        ),
+      )
   elements_apart (InstanceStep i ∷ ss) d k =
-      let rest = later (InstanceStep i) ss (d, k) in
-      (tt, (
-        λ n. each_weaker (λ t. AreUnlike (Gate (Written i.name)) (step_name t)) (StepHas mine element_names h (Differ (inside_of (WrittenOwn i.name) n))) ss
-        (λ t u. inside_unlike i.name n t u) (unlike (InstanceStep i) ss (d, k)),
-        elements_apart ss rest.0 rest.1))
+      let rest = later (InstanceStep i) ss (d, k) in (
+        tt,
+        (
+          λ n. each_weaker (λ t. AreUnlike (Gate (Written i.name)) (step_name t)) (StepHas mine element_names h (Differ (inside_of (WrittenOwn i.name) n))) ss
+              (λ t u. inside_unlike i.name n t u) (unlike (InstanceStep i) ss (d, k)),
+          elements_apart ss rest.0 rest.1,
+        ),
+      )

@@ -127,9 +127,9 @@ net_list h = record {
   none = refl;
   both = λ a b. refl;
   nets = λ at plan.
-    sym (map_id (flat_map (new_names at) plan.nets))
-    ∙ flat_same (λ x. x) (spelled at.path) (new_names at) (new_bits at.bound)
-    (λ net. flat_same (λ x. x) (spelled at.path) (new_name at net) (new_bit at.bound net) (new_name_spelled at net) (net_places net)) plan.nets;
+      sym (map_id (flat_map (new_names at) plan.nets))
+      ∙ flat_same (λ x. x) (spelled at.path) (new_names at) (new_bits at.bound)
+      (λ net. flat_same (λ x. x) (spelled at.path) (new_name at net) (new_bit at.bound net) (new_name_spelled at net) (net_places net)) plan.nets;
   element = λ at e. refl;
 }
 

@@ -1,7 +1,7 @@
 -- What a flattening adds has its nets among those that it adds and those before.
 use Rattle.std.proofs.Common.{◌≡◌, ℕ, zero, suc, ◌+◌, ◌<◌, ◌≤◌, ◌^◌, List, [], ◌∷◌, ◌++◌, length, map, Option, Some, None, refl, sym, ap, subst, ◌∙◌, arith}
 use Rattle.std.specs.Prelude.{slice_get, slice_index_or}
-use Rattle.std.specs.Option.{IsSomeAnd, is_some, option_map, option_map_or}
+use Rattle.std.specs.Option.{is_some, option_map, option_map_or}
 use Rattle.std.specs.List.{All, AllByRecursion, flat_map, zip}
 use Rattle.v_tree.specs.declared.locations.Location.{Location}
 use Rattle.v_tree.specs.declared.expressions.RangeBounds.{RangeBounds}
@@ -145,7 +145,8 @@ module _ (udps : List Primitive) (h : Hierarchy) (bits n : ℕ) (at : Place) (is
       filled = net_filled net;
       within = All_from_each (λ k. k < n) (map (bit_number net) (net_places net)) (each_map (λ k. k < n) (bit_number net) (net_places net) (places_within net fits));
     },
-    by_range net.range)
+    by_range net.range,
+  )
     where
       by_range : (range : Option RangeBounds) → AllByRecursion (IsFind n) (bit_finds at net range)
       by_range None = tt
@@ -168,8 +169,7 @@ module _ (udps : List Primitive) (h : Hierarchy) (bits n : ℕ) (at : Place) (is
   lists_within [] first row fits of = (tt, tt)
   lists_within (net ∷ nets) first row fits of =
       let fit : net.first + range_width net.range ≤ bits = omega (arith, row.0) in
-      let rest = lists_within nets (first + range_width net.range) row.1 (omega arith) of.1 in
-      (
+      let rest = lists_within nets (first + range_width net.range) row.1 (omega arith) of.1 in (
         each_append ClaimWithin (net_claims h at net) (flat_map (net_claims h at) nets) (claims_within net fit of.0.charge) rest.0,
         each_append (IsFind n) (net_finds at net) (flat_map (net_finds at) nets) (finds_within net fit) rest.1,
       )

@@ -1,6 +1,6 @@
 -- A worked example: two inverters in a row.
 use Rattle.std.proofs.Common.{◌≡◌, refl}
-use Rattle.std.specs.Prelude.{ℕ, Bool, true, false, List, [], ◌∷◌, map, Option, Some, None}
+use Rattle.std.specs.Prelude.{ℕ, false, [], ◌∷◌, map, Option, None}
 use Rattle.logic_tables.specs.declared.kinds.FoldKind.TheVariants as fold
 use Rattle.delay_rule.specs.declared.delays.Delays.{Delays}
 use Rattle.flat_net.specs.declared.kinds.ElementKind.TheVariants.{Fold}

@@ -1,6 +1,5 @@
 -- What the declarations of the nets that are joined through ports make of the flat net.
-use Rattle.std.specs.Prelude.{ℕ, Bool, true, false, not, ◌&&◌, List, [], ◌∷◌, Option, Some, None, is_none, nat_eq, if◌then◌else◌}
-use Rattle.delay_rule.specs.declared.delays.Delays.{Delays}
+use Rattle.std.specs.Prelude.{ℕ, Bool, true, false, not, ◌&&◌, List, [], ◌∷◌, None, is_none, nat_eq, if◌then◌else◌}
 use Rattle.flat_net.specs.declared.kinds.NetKind.{NetKind}
 use Rattle.flat_net.specs.declared.kinds.NetKind.TheVariants.{Wire}
 use Rattle.netlist_plan.specs.declared.claims.NetClaim.{NetClaim}

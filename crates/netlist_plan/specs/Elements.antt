@@ -1,6 +1,6 @@
 -- The elements of a module's parts, with their pins by the numbers of bits.
 use Rattle.std.specs.Prelude.{ℕ, ◌+◌, ◌-◌, Bool, true, false, List, [], ◌∷◌, ◌++◌, map, length, take, drop, Option, Some, None, slice_index_or, if◌then◌else◌}
-use Rattle.std.specs.List.{enumerate_from, flat_map, zip}
+use Rattle.std.specs.List.{enumerate_from, zip}
 use Rattle.std.specs.Option.{option_map_or}
 use Rattle.level_range.specs.declared.range.Logic.{Logic}
 use Rattle.level_range.specs.declared.range.Logic.TheVariants as logic
@@ -8,7 +8,7 @@ use Rattle.logic_tables.specs.declared.kinds.FoldKind.TheVariants as fold
 use Rattle.v_lexer.specs.declared.literals.Bit.{Bit}
 use Rattle.v_lexer.specs.declared.literals.Bit.TheVariants as bit
 use Rattle.flat_net.specs.declared.kinds.ElementKind.{ElementKind}
-use Rattle.flat_net.specs.declared.kinds.ElementKind.TheVariants.{Fold, Enable, Mos, Udp, Copy, Constant, Pull, Tran, Tranif}
+use Rattle.flat_net.specs.declared.kinds.ElementKind.TheVariants.{Fold, Mos, Copy, Constant}
 use Rattle.module_scope.specs.declared.scopes.Scope.{Scope}
 use Rattle.expression_bits.specs.declared.runs.BitRun.{BitRun}
 use Rattle.expression_bits.specs.declared.runs.BitRun.TheVariants.{Net, Literal}
@@ -16,9 +16,6 @@ use Rattle.element_forms.specs.declared.forms.ElementForm.{ElementForm}
 use Rattle.element_forms.specs.declared.forms.ElementForm.TheVariants.{Single, Bidirectional, Complementary}
 use Rattle.element_forms.specs.declared.strengths.Strengths.{Strengths}
 use Rattle.element_forms.specs.Strengths.{drive_strengths}
-use Rattle.module_parts.specs.declared.parts.GatePart.{GatePart}
-use Rattle.module_parts.specs.declared.parts.PairPart.{PairPart}
-use Rattle.module_parts.specs.declared.parts.InstancePart.{InstancePart}
 use Rattle.module_parts.specs.declared.parts.PortRuns.{PortRuns}
 use Rattle.netlist_plan.specs.declared.nets.ModuleNet.{ModuleNet}
 use Rattle.netlist_plan.specs.Unnamed.{literal_count}

@@ -9,14 +9,13 @@ use Rattle.delay_rule.specs.declared.delays.Delays.{Delays}
 use Rattle.flat_net.specs.declared.parts.Element.{Element}
 use Rattle.flat_net.specs.declared.parts.Find.{Find}
 use Rattle.item_parts.specs.Widths.{range_width}
-use Rattle.flat_names.specs.Spelling.{Own, FlatName, spelling}
+use Rattle.flat_names.specs.Spelling.{Own, spelling}
 use Rattle.flat_names.specs.Spelling.{Written as WrittenOwn, Unnamed as UnnamedOwn}
 use Rattle.netlist_plan.specs.declared.plan.OwnName.{OwnName}
 use Rattle.netlist_plan.specs.declared.plan.OwnName.TheVariants.{Written, Unnamed}
 use Rattle.netlist_plan.specs.declared.plan.ElementName.{ElementName}
 use Rattle.netlist_plan.specs.declared.plan.ElementName.TheVariants.{Gate, Half, Bit}
 use Rattle.netlist_plan.specs.declared.plan.PlanElement.{PlanElement}
-use Rattle.netlist_plan.specs.declared.plan.PlanInstance.{PlanInstance}
 use Rattle.netlist_plan.specs.declared.plan.PlanNet.{PlanNet}
 use Rattle.netlist_plan.specs.declared.plan.PlanStep.{PlanStep}
 use Rattle.netlist_plan.specs.declared.plan.PlanStep.TheVariants.{Element as ElementStep, Instance as InstanceStep}

@@ -7,7 +7,7 @@ use Rattle.v_tree.specs.declared.expressions.Select.{Select}
 use Rattle.name_table.specs.Names.{is_among, same_name}
 use Rattle.module_scope.specs.declared.scopes.Scope.{Scope}
 use Rattle.module_scope.specs.Scopes.{scope_net}
-use Rattle.item_parts.specs.Widths.{net_range, range_width, width_in}
+use Rattle.item_parts.specs.Widths.{net_range, range_width}
 use Rattle.expression_bits.specs.declared.runs.BitRun.{BitRun}
 use Rattle.expression_bits.specs.declared.runs.BitRun.TheVariants.{Net, Literal as LiteralRun}
 use Rattle.expression_bits.specs.Runs.{run_width}

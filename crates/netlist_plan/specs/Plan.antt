@@ -1,10 +1,9 @@
 -- The plan of a module.
-use Rattle.std.specs.Prelude.{ℕ, ◌+◌, ◌-◌, Bool, true, false, if◌then◌else◌, List, [], ◌∷◌, ◌++◌, map, length, drop, Option, Some, None, option_and_then, slice_get}
+use Rattle.std.specs.Prelude.{ℕ, ◌+◌, ◌-◌, Bool, true, false, if◌then◌else◌, List, [], ◌∷◌, ◌++◌, map, length, drop, Option, Some, None, slice_get}
 use Rattle.std.specs.List.{enumerate_from, flat_map, range_with_len}
 use Rattle.std.specs.Option.{option_map_or}
 use Rattle.v_tree.specs.declared.locations.Location.{Location}
 use Rattle.v_tree.specs.declared.expressions.Expr.{Expr}
-use Rattle.v_tree.specs.declared.expressions.RangeBounds.{RangeBounds}
 use Rattle.v_tree.specs.declared.gates.GateItem.{GateItem}
 use Rattle.v_tree.specs.declared.modules.Item.{Item}
 use Rattle.v_tree.specs.declared.modules.Item.TheVariants as item
@@ -23,7 +22,6 @@ use Rattle.expression_bits.specs.declared.runs.BitRun.{BitRun}
 use Rattle.expression_bits.specs.declared.runs.BitRun.TheVariants.{Net as NetRun, Literal as LiteralRun}
 use Rattle.element_forms.specs.declared.forms.ElementForm.{ElementForm}
 use Rattle.element_forms.specs.declared.forms.ElementForm.TheVariants.{Single, Bidirectional, Complementary}
-use Rattle.net_islands.specs.declared.parts.NetClass.{NetClass}
 use Rattle.element_forms.specs.declared.strengths.Strengths.{Strengths}
 use Rattle.element_forms.specs.Classes.{net_class}
 use Rattle.element_forms.specs.Forms.{element_form}

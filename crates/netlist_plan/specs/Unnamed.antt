@@ -1,9 +1,8 @@
 -- The things without name in a module, counted from 0 by their first tokens: gates and instances of primitives without a
 -- name, assignments, and literals, the zeros on the left of a right side among them.
-use Rattle.std.specs.Prelude.{ℕ, ◌+◌, List, [], ◌∷◌, ◌++◌, length}
+use Rattle.std.specs.Prelude.{ℕ, ◌+◌, List, [], ◌∷◌, ◌++◌}
 use Rattle.std.specs.List.{flat_map}
 use Rattle.std.specs.Option.{option_map_or}
-use Rattle.v_lexer.specs.declared.literals.Bit.{Bit}
 use Rattle.expression_bits.specs.declared.runs.BitRun.{BitRun}
 use Rattle.expression_bits.specs.declared.runs.BitRun.TheVariants.{Net, Literal}
 use Rattle.module_parts.specs.declared.parts.ModulePart.{ModulePart}

@@ -1,28 +1,19 @@
 -- The bits of runs are bits of the module's nets.
-use Rattle.std.proofs.Common.{◌≡◌, ℕ, zero, suc, ◌+◌, ◌-◌, ◌<◌, ◌≤◌, ◌^◌, Bool, true, false, ◌||◌, List, [], ◌∷◌, ◌++◌, length, map, Option, Some, None, refl, sym, ap, subst, ◌∙◌, arith, inl, inr, append_assoc}
+use Rattle.std.proofs.Common.{◌≡◌, ℕ, ◌+◌, ◌<◌, ◌≤◌, Bool, true, false, ◌||◌, List, [], ◌∷◌, ◌++◌, length, refl, sym, ap, ◌∙◌, arith, inl, inr}
 use Rattle.std.specs.Prelude.{◌⊎◌, if◌then◌else◌, nat_eq}
-use Rattle.std.specs.List.{All, AllByRecursion, flat_map, range_with_len}
 use Rattle.std.proofs.lemmas.Bool.{eq-eqb, eqb-true}
 use Rattle.std.proofs.lemmas.Slice.Eq.{bytes_eq-Decides}
 use Rattle.v_lexer.specs.declared.literals.Bit.{Bit}
 use Rattle.name_table.specs.Names.{is_among, same_name}
-use Rattle.v_tree.specs.declared.expressions.Select.{Select}
 use Rattle.module_scope.specs.declared.scopes.Scope.{Scope}
 use Rattle.module_scope.specs.Scopes.{scope_net}
-use Rattle.item_parts.specs.Widths.{net_range, range_width, width_in}
+use Rattle.item_parts.specs.Widths.{net_range, range_width}
 use Rattle.expression_bits.specs.declared.runs.BitRun.{BitRun}
 use Rattle.expression_bits.specs.declared.runs.BitRun.TheVariants.{Net as NetRun, Literal as LiteralRun}
-use Rattle.expression_bits.specs.Runs.{run_width}
-use Rattle.module_parts.specs.declared.parts.ModulePart.{ModulePart}
 use Rattle.netlist_plan.specs.declared.nets.NetSource.{NetSource}
 use Rattle.netlist_plan.specs.declared.nets.NetSource.TheVariants.{Named, Literal}
 use Rattle.netlist_plan.specs.declared.nets.ModuleNet.{ModuleNet}
-use Rattle.netlist_plan.specs.Unnamed.{literal_count}
-use Rattle.netlist_plan.specs.Nets.{bit_count, first_where, is_literal, is_named, literal_first, name_first, nets_from, new_sources, run_bits, run_sources, select_offset, source_width}
-use Rattle.netlist_plan.specs.Elements.{constants, lists_bits, literal_constants, runs_bits}
-use Rattle.flattening_laws.proofs.Apart.{each_append}
-use Rattle.flattening_laws.proofs.BitNames.{each_range}
-use Rattle.plan_laws.specs.SoundRuns.{FitsRange, IsSoundRun}
+use Rattle.netlist_plan.specs.Nets.{bit_count, literal_first, name_first, nets_from, new_sources, run_sources}
 use Rattle.plan_laws.proofs.RowLaws.{AreRising}
 
 -- ---- names and literals among sources

@@ -1,22 +1,18 @@
 -- The elements of a sound gate are sound.
-use Rattle.std.proofs.Common.{◌≡◌, ℕ, zero, suc, ◌+◌, ◌-◌, ◌<◌, ◌≤◌, ◌^◌, min, Bool, true, false, List, [], ◌∷◌, ◌++◌, length, map, take, drop, Option, Some, None, refl, sym, ap, subst, ◌∙◌, arith}
+use Rattle.std.proofs.Common.{◌≡◌, ℕ, zero, suc, ◌+◌, ◌-◌, ◌<◌, ◌≤◌, ◌^◌, Bool, true, false, List, [], ◌∷◌, ◌++◌, length, map, take, drop, Option, Some, None, refl, sym, ap, subst, arith}
 use Rattle.std.specs.Prelude.{slice_index_or}
-use Rattle.std.specs.List.{All, AllByRecursion, range_with_len, enumerate_from, zip}
-use Rattle.std.specs.Option.{is_some}
-use Rattle.v_lexer.specs.declared.literals.Bit.{Bit}
+use Rattle.std.specs.List.{AllByRecursion, enumerate_from, zip}
 use Rattle.udp_table.specs.Primitive.{Primitive}
-use Rattle.flat_net.specs.Elements.{HasPinsOf, end_nets, joins_ends}
+use Rattle.flat_net.specs.Elements.{HasPinsOf, joins_ends}
 use Rattle.flat_net.specs.declared.kinds.ElementKind.{ElementKind}
-use Rattle.flat_net.specs.declared.kinds.ElementKind.TheVariants.{Mos, Copy, Constant}
-use Rattle.flat_names.specs.Spelling.{IsText, IsOwn}
+use Rattle.flat_net.specs.declared.kinds.ElementKind.TheVariants.{Mos, Copy}
+use Rattle.flat_names.specs.Spelling.{IsOwn}
 use Rattle.element_forms.specs.declared.forms.ElementForm.{ElementForm}
 use Rattle.element_forms.specs.declared.forms.ElementForm.TheVariants.{Single, Bidirectional, Complementary}
 use Rattle.element_forms.specs.declared.strengths.Strengths.{Strengths}
 use Rattle.netlist_plan.specs.declared.plan.OwnName.{OwnName}
-use Rattle.netlist_plan.specs.declared.plan.OwnName.TheVariants.{Written, Unnamed}
 use Rattle.netlist_plan.specs.declared.plan.ElementName.{ElementName}
 use Rattle.netlist_plan.specs.declared.plan.ElementName.TheVariants.{Gate, Half, Bit as BitName}
-use Rattle.netlist_plan.specs.declared.plan.PlanElement.{PlanElement}
 use Rattle.netlist_plan.specs.Elements.{copied_bit, copies, form_elements, gate_name, half, output_count, single}
 use Rattle.netlist_plan.specs.Flattening.{own_name}
 use Rattle.flattening_laws.specs.SoundPlans.{IsElementName, IsPlanElement}
@@ -93,19 +89,17 @@ module _ (udps : List Primitive) (bits : ℕ) where
   form_sound own (Single kind) strengths item terminals named levels few count within =
       let outs = output_count kind (length terminals) in
       let first = take_length outs terminals count.0 in
-      let rest = drop_length outs terminals in
-      (
+      let rest = drop_length outs terminals in (
         single_sound (Gate own) kind false strengths item (take outs terminals) (drop outs terminals) named levels
-        (subst (λ k. HasPinsOf udps kind k (length (drop outs terminals))) (sym first) (subst (λ k. HasPinsOf udps kind outs k) (sym rest) count.1)) count.2
-        (let least = count.0 in omega arith) (each_take (λ bit. bit < bits) outs terminals within) (each_drop (λ bit. bit < bits) outs terminals within),
+            (subst (λ k. HasPinsOf udps kind k (length (drop outs terminals))) (sym first) (subst (λ k. HasPinsOf udps kind outs k) (sym rest) count.1)) count.2
+            (let least = count.0 in omega arith) (each_take (λ bit. bit < bits) outs terminals within) (each_drop (λ bit. bit < bits) outs terminals within),
         tt,
       )
   form_sound own (Bidirectional kind resistive) strengths item terminals named levels few count within =
       let least = count.0 in
       let rest = drop_length 2 terminals in
       let first = each_get (λ bit. bit < bits) 0 terminals (omega arith) within in
-      let second = each_get (λ bit. bit < bits) 1 terminals (omega arith) within in
-      (
+      let second = each_get (λ bit. bit < bits) 1 terminals (omega arith) within in (
         record {
           name = named;
           strengths = levels;

@@ -1,7 +1,7 @@
 -- The bits of a module's ports are bits of its nets, and no two ports have the same.
-use Rattle.std.proofs.Common.{◌≡◌, ℕ, zero, suc, ◌+◌, ◌-◌, ◌<◌, ◌≤◌, ◌^◌, Bool, true, false, ◌||◌, List, [], ◌∷◌, ◌++◌, length, map, Option, Some, None, refl, sym, ap, subst, ◌∙◌, arith, inl, inr}
+use Rattle.std.proofs.Common.{◌≡◌, ℕ, zero, suc, ◌+◌, ◌<◌, ◌≤◌, ◌^◌, Bool, true, false, ◌||◌, List, [], ◌∷◌, ◌++◌, length, map, refl, sym, ap, ◌∙◌, arith, inl, inr}
 use Rattle.std.specs.Prelude.{◌⊎◌, if◌then◌else◌}
-use Rattle.std.specs.List.{All, AllByRecursion, flat_map, range_with_len, enumerate_from}
+use Rattle.std.specs.List.{AllByRecursion, range_with_len, enumerate_from}
 use Rattle.std.proofs.lemmas.Slice.Eq.{bytes_eq-Decides}
 use Rattle.v_lexer.specs.declared.literals.Bit.{Bit}
 use Rattle.name_table.specs.Names.{same_name}
@@ -16,7 +16,7 @@ use Rattle.netlist_plan.specs.Nets.{bit_count, literal_first, name_first, nets_f
 use Rattle.netlist_plan.specs.Elements.{constant, constants, literal_constants}
 use Rattle.netlist_plan.specs.Plan.{port_bits}
 use Rattle.flattening_laws.specs.SoundPlans.{IsPlanElement, ports_bits}
-use Rattle.flattening_laws.proofs.Apart.{AreApart, All_from_each, Differ, apart_append, each_append, each_weaker}
+use Rattle.flattening_laws.proofs.Apart.{AreApart, All_from_each, Differ, apart_append, each_append}
 use Rattle.flattening_laws.proofs.BitNames.{each_range}
 use Rattle.plan_laws.specs.SoundRuns.{IsSoundRun}
 use Rattle.plan_laws.proofs.RowLaws.{AreRising}
@@ -54,7 +54,7 @@ module _ (scope : Scope) where
           → (has_name a sources ≡ true → first + width_of_name scope other ≤ name_first rest a) → (has_name b sources ≡ true → first + width_of_name scope other ≤ name_first rest b)
           → (has_name a sources ≡ true → has_name b sources ≡ true → AreParted rest a b)
           → ((if s then first else name_first rest a) + width_of_name scope a ≤ (if t then first else name_first rest b))
-            ⊎ ((if t then first else name_first rest b) + width_of_name scope b ≤ (if s then first else name_first rest a))
+          ⊎ ((if t then first else name_first rest b) + width_of_name scope b ≤ (if s then first else name_first rest a))
       by_tests true is true it e f least_a least_b parted = absurd (differ ((bytes_eq-Decides a other).0 is ∙ sym ((bytes_eq-Decides b other).0 it)))
       by_tests true is false it e f least_a least_b parted =
           let same : width_of_name scope a ≡ width_of_name scope other = ap (width_of_name scope) ((bytes_eq-Decides a other).0 is) in

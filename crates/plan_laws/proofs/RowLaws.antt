@@ -1,9 +1,8 @@
 -- The nets of a plan follow one another, and have names that differ.
-use Rattle.std.proofs.Common.{◌≡◌, ℕ, zero, suc, ◌+◌, ◌-◌, ◌<◌, ◌≤◌, ◌^◌, Bool, true, false, ◌||◌, List, [], ◌∷◌, ◌++◌, length, map, Option, Some, None, refl, sym, ap, subst, ◌∙◌, arith}
+use Rattle.std.proofs.Common.{◌≡◌, ℕ, ◌+◌, ◌<◌, ◌≤◌, Bool, true, false, ◌||◌, List, [], ◌∷◌, ◌++◌, map, Option, Some, None, refl, sym, ap, subst, ◌∙◌, arith}
 use Rattle.std.specs.Prelude.{if◌then◌else◌}
-use Rattle.std.specs.List.{All, AllByRecursion, flat_map}
+use Rattle.std.specs.List.{AllByRecursion, flat_map}
 use Rattle.std.proofs.lemmas.Slice.Eq.{bytes_eq-Decides}
-use Rattle.v_lexer.specs.declared.literals.Bit.{Bit}
 use Rattle.name_table.specs.Names.{is_among, same_name}
 use Rattle.module_scope.specs.declared.nets.ScopeNet.{ScopeNet}
 use Rattle.module_scope.specs.declared.scopes.Scope.{Scope}
@@ -15,7 +14,6 @@ use Rattle.module_parts.specs.declared.parts.ModulePart.{ModulePart}
 use Rattle.module_parts.specs.declared.parts.ModulePart.TheVariants.{Names, Gate, Pair, Instance}
 use Rattle.netlist_plan.specs.declared.nets.NetSource.{NetSource}
 use Rattle.netlist_plan.specs.declared.nets.NetSource.TheVariants.{Named, Literal}
-use Rattle.netlist_plan.specs.declared.nets.ModuleNet.{ModuleNet}
 use Rattle.netlist_plan.specs.declared.plan.OwnName.{OwnName}
 use Rattle.netlist_plan.specs.declared.plan.OwnName.TheVariants.{Written, Unnamed}
 use Rattle.netlist_plan.specs.declared.plan.PlanNet.{PlanNet}
@@ -39,9 +37,11 @@ width_is scope bound first (Literal number bits) is = let some = is.1 in omega a
 
 pub plan-row : (scope : Scope) (bound first : ℕ) (sources : List NetSource) → AllByRecursion (IsSource bound) sources → AreInRow first (map (plan_net scope) (nets_from scope first sources))
 plan-row scope bound first [] is = tt
-plan-row scope bound first (source ∷ sources) is =
-    (first_is source, subst (λ w. AreInRow (first + w) (map (plan_net scope) (nets_from scope (first + source_width scope source) sources))) (sym (width_is scope bound first source is.0))
-    (plan-row scope bound (first + source_width scope source) sources is.1))
+plan-row scope bound first (source ∷ sources) is = (
+  first_is source,
+  subst (λ w. AreInRow (first + w) (map (plan_net scope) (nets_from scope (first + source_width scope source) sources))) (sym (width_is scope bound first source is.0))
+      (plan-row scope bound (first + source_width scope source) sources is.1),
+)
   where
     first_is : (source : NetSource) → (plan_source scope first source).first ≡ first
     first_is (Named name) = by_net (scope_net scope name)
@@ -165,9 +165,11 @@ fresh name before (Named other ∷ sources) there =
         → AllByRecursion (λ s. Differ (Written name) (source_name s)) (new_sources (before ++ other ∷ []) sources)
         → AllByRecursion (λ s. Differ (Written name) (source_name s)) (if b then new_sources before sources else Named other ∷ new_sources (before ++ other ∷ []) sources)
     by_test true is old new = old
-    by_test false is old new =
-        (λ e. let same : name ≡ other = ap text_of e in
-          let no : true ≡ false = sym there ∙ ap (λ n. is_among n before) same ∙ is in absurd cc, new)
+    by_test false is old new = (
+      λ e. let same : name ≡ other = ap text_of e in
+          let no : true ≡ false = sym there ∙ ap (λ n. is_among n before) same ∙ is in absurd cc,
+      new,
+    )
 fresh name before (Literal number bits ∷ sources) there = (written_apart name number, fresh name before sources there)
 
 new_apart : (before : List (List ℕ)) (low : ℕ) (sources : List NetSource) → AreRising low sources → AreApart (map source_name (new_sources before sources))

@@ -1,13 +1,9 @@
 -- The nets of a module stand in a row.
-use Rattle.std.proofs.Common.{◌≡◌, ℕ, zero, suc, ◌+◌, ◌-◌, ◌<◌, ◌≤◌, ◌^◌, Bool, true, false, List, [], ◌∷◌, ◌++◌, length, map, Option, Some, None, refl, sym, ap, subst, ◌∙◌, arith}
+use Rattle.std.proofs.Common.{ℕ, ◌+◌, ◌<◌, ◌≤◌, ◌^◌, Bool, true, false, List, [], ◌∷◌, ◌++◌, length, arith}
 use Rattle.std.specs.Prelude.{if◌then◌else◌}
-use Rattle.std.specs.List.{All, AllByRecursion, flat_map}
-use Rattle.v_lexer.specs.declared.literals.Bit.{Bit}
-use Rattle.name_table.specs.Names.{is_among, same_name}
-use Rattle.module_scope.specs.declared.nets.ScopeNet.{ScopeNet}
+use Rattle.std.specs.List.{AllByRecursion, flat_map}
+use Rattle.name_table.specs.Names.{is_among}
 use Rattle.module_scope.specs.declared.scopes.Scope.{Scope}
-use Rattle.module_scope.specs.Scopes.{scope_net}
-use Rattle.item_parts.specs.Widths.{net_range, range_width}
 use Rattle.expression_bits.specs.declared.runs.BitRun.{BitRun}
 use Rattle.expression_bits.specs.declared.runs.BitRun.TheVariants.{Net as NetRun, Literal as LiteralRun}
 use Rattle.module_parts.specs.declared.parts.ModulePart.{ModulePart}
@@ -15,11 +11,10 @@ use Rattle.module_parts.specs.declared.parts.ModulePart.TheVariants.{Names, Gate
 use Rattle.flat_names.specs.Spelling.{IsText}
 use Rattle.netlist_plan.specs.declared.nets.NetSource.{NetSource}
 use Rattle.netlist_plan.specs.declared.nets.NetSource.TheVariants.{Named, Literal}
-use Rattle.netlist_plan.specs.declared.nets.ModuleNet.{ModuleNet}
 use Rattle.netlist_plan.specs.Unnamed.{literal_count, numbered_from, own_count, runs_in, unnamed_count}
-use Rattle.netlist_plan.specs.Nets.{module_nets, nets_from, new_sources, part_sources, run_sources, source_width}
-use Rattle.flattening_laws.proofs.Apart.{each_append, each_from_All, each_map, each_weaker}
-use Rattle.plan_laws.specs.SoundRuns.{HasSoundRuns, IsSoundRun, whole_names}
+use Rattle.netlist_plan.specs.Nets.{new_sources, part_sources, run_sources}
+use Rattle.flattening_laws.proofs.Apart.{each_append, each_from_All, each_map}
+use Rattle.plan_laws.specs.SoundRuns.{HasSoundRuns, IsSoundRun}
 
 -- ---- what nets are
 

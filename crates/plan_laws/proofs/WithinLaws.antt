@@ -1,13 +1,12 @@
 -- The pins of elements and the bits of connections are bits of the module's nets.
-use Rattle.std.proofs.Common.{◌≡◌, ℕ, zero, suc, ◌+◌, ◌-◌, ◌<◌, ◌≤◌, ◌^◌, Bool, true, false, List, [], ◌∷◌, ◌++◌, length, map, Option, Some, None, refl, sym, ap, subst, ◌∙◌, arith}
+use Rattle.std.proofs.Common.{◌≡◌, ℕ, zero, suc, ◌+◌, ◌<◌, List, [], ◌∷◌, ◌++◌, length, Option, Some, None, refl, ap, subst, arith}
 use Rattle.std.specs.Prelude.{slice_index_or}
-use Rattle.std.specs.List.{All, AllByRecursion, flat_map, range_with_len}
-use Rattle.v_lexer.specs.declared.literals.Bit.{Bit}
+use Rattle.std.specs.List.{AllByRecursion, flat_map, range_with_len}
 use Rattle.v_tree.specs.declared.expressions.RangeBounds.{RangeBounds}
 use Rattle.v_tree.specs.declared.expressions.Select.{Select}
 use Rattle.module_scope.specs.declared.scopes.Scope.{Scope}
 use Rattle.module_scope.specs.Scopes.{scope_net}
-use Rattle.item_parts.specs.Widths.{net_range, range_width, width_in}
+use Rattle.item_parts.specs.Widths.{net_range, width_in}
 use Rattle.expression_bits.specs.declared.runs.BitRun.{BitRun}
 use Rattle.expression_bits.specs.declared.runs.BitRun.TheVariants.{Net as NetRun, Literal as LiteralRun}
 use Rattle.expression_bits.specs.Runs.{run_width}
@@ -15,10 +14,10 @@ use Rattle.netlist_plan.specs.declared.nets.NetSource.{NetSource}
 use Rattle.netlist_plan.specs.declared.nets.ModuleNet.{ModuleNet}
 use Rattle.netlist_plan.specs.Unnamed.{literal_count}
 use Rattle.netlist_plan.specs.Nets.{bit_count, literal_first, name_first, nets_from, run_bits, select_offset}
-use Rattle.netlist_plan.specs.Elements.{lists_bits, runs_bits, terminal_bits}
-use Rattle.flattening_laws.proofs.Apart.{each_append, each_map}
+use Rattle.netlist_plan.specs.Elements.{runs_bits, terminal_bits}
+use Rattle.flattening_laws.proofs.Apart.{each_append}
 use Rattle.flattening_laws.proofs.BitNames.{each_range}
-use Rattle.plan_laws.specs.SoundRuns.{FitsRange, IsSoundRun}
+use Rattle.plan_laws.specs.SoundRuns.{IsSoundRun}
 use Rattle.plan_laws.proofs.RowLaws.{AreRising}
 use Rattle.plan_laws.proofs.BitLaws.{AreAmong, literal_within, name_within}
 
@@ -95,8 +94,7 @@ module _ (scope : Scope) (sources : List NetSource) (rising : AreRising 0 source
       → AllByRecursion (λ bit. bit < count) (terminal_bits scope nets number lists)
   terminals_within number [] among is = tt
   terminals_within number (runs ∷ lists) among is =
-      let split = among_parts sources number runs (flat_map (λ runs. runs) lists) among in
-      (
+      let split = among_parts sources number runs (flat_map (λ runs. runs) lists) among in (
         first_within (runs_bits scope nets number runs) (runs_some number runs is.0.0 is.0.1) (runs_within number runs split.0 is.0.1),
         terminals_within (number + literal_count runs) lists split.1 is.1,
       )

@@ -4,7 +4,6 @@ use Rattle.std.specs.List.{All}
 use Rattle.udp_table.specs.Primitive.{Primitive}
 use Rattle.flat_net.specs.Elements.{HasPinsOf, joins_ends}
 use Rattle.flat_names.specs.Spelling.{IsText}
-use Rattle.module_scope.specs.declared.scopes.Scope.{Scope}
 use Rattle.element_forms.specs.declared.forms.ElementForm.{ElementForm}
 use Rattle.element_forms.specs.declared.forms.ElementForm.TheVariants.{Single, Bidirectional, Complementary}
 use Rattle.module_parts.specs.declared.parts.GatePart.{GatePart}
