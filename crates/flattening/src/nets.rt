@@ -1,0 +1,136 @@
+//! What the nets of an instance add.
+ghost use Rattle.std.specs.Prelude.{◌≡◌, ◌<◌, ◌++◌, OnOk};
+ghost use Rattle.std.specs.List.{flat_map};
+ghost use Rattle.item_parts.specs.Widths.{range_width};
+ghost use Rattle.netlist_plan.specs.Additions.{joined};
+ghost use Rattle.flattening.specs.Lists.{so_far};
+ghost use Rattle.flattening.specs.Spelled.{net_claim, net_claims, net_finds, nets_additions, new_name, new_names};
+
+use crate::delays::ItemDelays;
+use crate::finds::push_all_finds;
+use crate::lists::Growth;
+use crate::names::{bit_index, flat_name};
+use crate::places::{Place, is_bound, number_of};
+use byte_lists::Bytes;
+use item_parts::range_width;
+use netlist_plan::{NetClaim, PlanNet};
+use std::alloc::{AllocError, Global};
+use v_lexer::ReservedWords;
+
+/// Adds the name of a bit of a net, by its place from the left, where it isn't connected outside.
+fn push_new_name(
+    alloc: Global,
+    words: &ReservedWords,
+    at: &Place,
+    net: &PlanNet,
+    place: u64,
+    names: &mut Vec<Bytes>,
+) -> Result<(), AllocError>
+    requires { place < range_width net.now.range }
+    ensures { OnOk result (names.new.items ≡ names.old.items ++ new_name at.now net.now place) }
+{
+    if is_bound(at.bound.as_slice(), u64::from(net.first) + place) {
+        return Ok(());
+    }
+    let index = bit_index(net.range, place);
+    names.push(flat_name(alloc, words, at.prefix.as_slice(), &net.name, index)?)?;
+    Ok(())
+}
+
+/// Adds the names of the bits of a net that aren't connected outside.
+fn push_new_names(
+    alloc: Global,
+    words: &ReservedWords,
+    at: &Place,
+    net: &PlanNet,
+    names: &mut Vec<Bytes>,
+) -> Result<(), AllocError>
+    ensures { OnOk result (names.new.items ≡ names.old.items ++ new_names at.now net.now) }
+{
+    for place in 0..range_width(net.range) {
+        push_new_name(alloc, words, at, net, place, names)?;
+    }
+    Ok(())
+}
+
+/// What the declaration of a net says of its bits.
+fn net_claim(delays: &ItemDelays, at: &Place, net: &PlanNet) -> NetClaim
+    ensures { result ≡ net_claim delays.now at.now net.now }
+{
+    let of_item = match net.delay {
+        Some(item) => Some(delays.of(at.master, Some(item))),
+        None => None,
+    };
+    NetClaim {
+        class: net.class,
+        delays: of_item,
+    }
+}
+
+/// Adds what the declaration of a net says of its bits, from the left.
+fn push_claims(
+    delays: &ItemDelays,
+    at: &Place,
+    net: &PlanNet,
+    claims: &mut Vec<(u32, NetClaim)>,
+) -> Result<(), AllocError>
+    ensures { OnOk result
+        (claims.new.items ≡ claims.old.items ++ net_claims delays.now at.now net.now) }
+{
+    let claim = net_claim(delays, at, net);
+    for place in 0..range_width(net.range) {
+        let bit = u64::from(net.first) + place;
+        claims.push((number_of(at.numbers.as_slice(), bit), claim))?;
+    }
+    Ok(())
+}
+
+/// Adds the names of new nets of an instance.
+fn push_all_names(
+    alloc: Global,
+    words: &ReservedWords,
+    at: &Place,
+    nets: &[PlanNet],
+    names: &mut Vec<Bytes>,
+) -> Result<(), AllocError>
+    ensures { OnOk result
+        (names.new.items ≡ names.old.items ++ flat_map (new_names at.now) nets.now) }
+{
+    for net in nets {
+        push_new_names(alloc, words, at, net, names)?;
+    }
+    Ok(())
+}
+
+/// Adds what the declarations of the nets of an instance say.
+fn push_all_claims(
+    delays: &ItemDelays,
+    at: &Place,
+    nets: &[PlanNet],
+    claims: &mut Vec<(u32, NetClaim)>,
+) -> Result<(), AllocError>
+    ensures { OnOk result
+        (claims.new.items ≡ claims.old.items ++ flat_map (net_claims delays.now at.now) nets.now) }
+{
+    for net in nets {
+        push_claims(delays, at, net, claims)?;
+    }
+    Ok(())
+}
+
+/// Adds what the nets of an instance add.
+pub fn push_nets(
+    alloc: Global,
+    words: &ReservedWords,
+    delays: &ItemDelays,
+    at: &Place,
+    nets: &[PlanNet],
+    to: &mut Growth,
+) -> Result<(), AllocError>
+    ensures { OnOk result
+        (so_far to.new ≡ joined (so_far to.old) (nets_additions delays.now at.now nets.now)) }
+{
+    push_all_names(alloc, words, at, nets, &mut to.net_names)?;
+    push_all_claims(delays, at, nets, &mut to.claims)?;
+    push_all_finds(alloc, words, at, nets, &mut to.finds)
+}
