@@ -1,4 +1,5 @@
 pub mod Joining
+pub mod ListSteps
 pub mod Ranges
 pub mod SlotLemmas
 pub mod SpelledLaws

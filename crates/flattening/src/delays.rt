@@ -1,5 +1,5 @@
 //! The delays of items.
-ghost use Rattle.std.specs.Prelude.{◌≡◌};
+ghost use Rattle.std.specs.Prelude.{◌≡◌, [], slice_index_or};
 ghost use Rattle.flattening.specs.Delays.{delays_of, listed_delays};
 
 use delay_rule::Delays;
@@ -20,15 +20,22 @@ pub struct ItemDelays {
 }
 
 impl ItemDelays {
+    /// The delays of the items of a module, none where there is no such module.
+    fn of_module(&self, master: usize) -> &[Delays]
+        ensures { result.now ≡ slice_index_or self.now.by_module master [] }
+    {
+        match self.by_module.as_slice().get(master) {
+            Some(list) => list.as_slice(),
+            None => &[],
+        }
+    }
+
     /// The delays of an item of a module, by their indexes.
     fn listed(&self, master: usize, item: usize) -> Delays
         ensures { result ≡ listed_delays self.now master item }
     {
-        match self.by_module.get(master) {
-            Some(list) => match list.as_slice().get(item) {
-                Some(delays) => *delays,
-                None => self.none,
-            },
+        match self.of_module(master).get(item) {
+            Some(delays) => *delays,
             None => self.none,
         }
     }

@@ -6,10 +6,9 @@ ghost use Rattle.netlist_plan.specs.Flattening.{net_places};
 ghost use Rattle.flattening.specs.Spelled.{bit_find, bit_finds, net_find, net_finds};
 
 use crate::names::{bit_index, flat_name};
-use crate::places::{Place, number_of};
+use crate::places::{Place, net_width, number_at};
 use byte_lists::NetList;
 use flat_net::Find;
-use item_parts::range_width;
 use netlist_plan::PlanNet;
 use std::alloc::{AllocError, Global};
 use v_lexer::ReservedWords;
@@ -21,8 +20,8 @@ fn net_numbers(alloc: Global, numbers: &[u32], net: &PlanNet) -> Result<NetList,
         (net_places net.now)) }
 {
     let mut nets = Vec::new(alloc);
-    for place in 0..range_width(net.range) {
-        nets.push(number_of(numbers, u64::from(net.first) + place))?;
+    for place in 0..net_width(net) {
+        nets.push(number_at(numbers, net, place as u32))?;
     }
     Ok(NetList::from_vec(nets))
 }
@@ -42,14 +41,14 @@ fn bit_find(
     words: &ReservedWords,
     at: &Place,
     net: &PlanNet,
-    place: u64,
+    place: u32,
 ) -> Result<Find, AllocError>
     requires { place < range_width net.now.range }
     ensures { IfOk result (λ find. find ≡ bit_find at.now net.now place) }
 {
     let index = bit_index(net.range, place);
     let name = flat_name(alloc, words, at.prefix.as_slice(), &net.name, index)?;
-    let number = number_of(at.numbers.as_slice(), u64::from(net.first) + place);
+    let number = number_at(at.numbers.as_slice(), net, place);
     Ok(Find {
         name,
         nets: one_number(alloc, number)?,
@@ -67,8 +66,8 @@ fn push_each_bit(
     ensures { OnOk result
         (finds.new.items ≡ finds.old.items ++ map (bit_find at.now net.now) (net_places net.now)) }
 {
-    for place in 0..range_width(net.range) {
-        finds.push(bit_find(alloc, words, at, net, place)?)?;
+    for place in 0..net_width(net) {
+        finds.push(bit_find(alloc, words, at, net, place as u32)?)?;
     }
     Ok(())
 }

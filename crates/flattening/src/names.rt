@@ -115,13 +115,13 @@ pub fn element_text(
 }
 
 /// The index of a bit by its place from the left, where the net is a vector.
-pub fn bit_index(range: Option<RangeBounds>, place: u64) -> Option<u32>
+pub fn bit_index(range: Option<RangeBounds>, place: u32) -> Option<u32>
     requires { place < range_width range }
     ensures { result ≡ bit_index range place }
 {
     match range {
-        Some(range) if range.right <= range.left => Some(range.left - place as u32),
-        Some(range) => Some(range.left + place as u32),
+        Some(range) if range.right <= range.left => Some(range.left - place),
+        Some(range) => Some(range.left + place),
         None => None,
     }
 }

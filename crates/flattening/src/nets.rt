@@ -10,9 +10,8 @@ use crate::delays::ItemDelays;
 use crate::finds::push_all_finds;
 use crate::lists::Growth;
 use crate::names::{bit_index, flat_name};
-use crate::places::{Place, is_bound, number_of};
+use crate::places::{Place, is_bound, net_width, number_at};
 use byte_lists::Bytes;
-use item_parts::range_width;
 use netlist_plan::{NetClaim, PlanNet};
 use std::alloc::{AllocError, Global};
 use v_lexer::ReservedWords;
@@ -23,13 +22,13 @@ fn push_new_name(
     words: &ReservedWords,
     at: &Place,
     net: &PlanNet,
-    place: u64,
+    place: u32,
     names: &mut Vec<Bytes>,
 ) -> Result<(), AllocError>
     requires { place < range_width net.now.range }
     ensures { OnOk result (names.new.items ≡ names.old.items ++ new_name at.now net.now place) }
 {
-    if is_bound(at.bound.as_slice(), u64::from(net.first) + place) {
+    if is_bound(at.bound.as_slice(), net, place) {
         return Ok(());
     }
     let index = bit_index(net.range, place);
@@ -47,8 +46,8 @@ fn push_new_names(
 ) -> Result<(), AllocError>
     ensures { OnOk result (names.new.items ≡ names.old.items ++ new_names at.now net.now) }
 {
-    for place in 0..range_width(net.range) {
-        push_new_name(alloc, words, at, net, place, names)?;
+    for place in 0..net_width(net) {
+        push_new_name(alloc, words, at, net, place as u32, names)?;
     }
     Ok(())
 }
@@ -78,9 +77,9 @@ fn push_claims(
         (claims.new.items ≡ claims.old.items ++ net_claims delays.now at.now net.now) }
 {
     let claim = net_claim(delays, at, net);
-    for place in 0..range_width(net.range) {
-        let bit = u64::from(net.first) + place;
-        claims.push((number_of(at.numbers.as_slice(), bit), claim))?;
+    for place in 0..net_width(net) {
+        let number = number_at(at.numbers.as_slice(), net, place as u32);
+        claims.push((number, claim))?;
     }
     Ok(())
 }

@@ -5,12 +5,14 @@ ghost use Rattle.netlist_plan.specs.Flattening.{bit_count, number_outside};
 ghost use Rattle.flattening.specs.Slots.{number_slots, slot_numbers};
 ghost use Rattle.flattening.specs.Spelled.{place_of};
 
-use crate::places::Place;
+use crate::places::{Place, net_width};
 use byte_lists::{Bytes, NetList};
-use item_parts::range_width;
 use list_of::ListOf;
 use netlist_plan::PlanNet;
 use std::alloc::{AllocError, Global};
+
+/// How many nets can't be numbered any more.
+const LIMIT: u128 = 1 << 32;
 
 /// How many bits nets have.
 fn bit_count(nets: &[PlanNet]) -> u128
@@ -18,7 +20,7 @@ fn bit_count(nets: &[PlanNet]) -> u128
 {
     let mut count: u128 = 0;
     for net in nets {
-        count += u128::from(range_width(net.range));
+        count += u128::from(net_width(net));
     }
     count
 }
@@ -29,7 +31,7 @@ fn held_count(next: usize, count: u128) -> Result<usize, AllocError>
     ensures count { IfOk result (λ held. held ≡ count) }
     ensures room { IfOk result (λ held. next + held < 2 ^ 32) }
 {
-    if count + next as u128 > u128::from(u32::MAX) {
+    if count >= LIMIT || next as u128 >= LIMIT - count {
         return Err(AllocError);
     }
     Ok(count as usize)
