@@ -8,4 +8,4 @@ pub loop-place-preserved : goal.loop-place-preserved
 loop-place-preserved c =
     let seen = c.loop-place.finds.items in
     each_more {A = Find} (bit_find c.args.at.now c.args.net.now) c.args.finds.now.items seen c.push.new.self.items c.loop-place.place
-    c.loop-place.invariant (c.in_ok-push.ensures.items ∙ ap (λ (find : Find). seen ++ find ∷ []) ?)
+    c.loop-place.invariant (c.in_ok-push.ensures.items ∙ ap (λ (find : Find). seen ++ find ∷ []) c.in_ok-bit_find.ensures)

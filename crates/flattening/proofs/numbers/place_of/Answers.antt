@@ -11,7 +11,7 @@ use Rattle.flattening.proofs.numbers.place_of.Goals as goal
 pub slot_numbers-requires : goal.slot_numbers-requires
 slot_numbers-requires c =
     let long : length c.deref.result.now ≡ c.in_ok-count.count =
-        ap length (c.deref.ensures.value ∙ c.in_ok-slots.ensures) ∙ length-map-range_with_len (number_outside c.args.outside.now) 0 c.in_ok-count.count in
+    ap length (c.deref.ensures.value ∙ c.in_ok-slots.ensures) ∙ length-map-range_with_len (number_outside c.args.outside.now) 0 c.in_ok-count.count in
     omega (arith, c.in_ok-count.ensures.room)
 
 abbrev made : ℕ → List ℕ → List ℕ → List Bool → Place
@@ -26,7 +26,7 @@ returns c =
     let outside = c.args.outside.now in
     let count : c.in_ok-count.count ≡ bit_count c.args.nets.now = c.in_ok-count.ensures.count ∙ c.bit_count.ensures in
     let slots : c.in_ok-slots.slots.items ≡ map (number_outside outside) (range_with_len 0 (bit_count c.args.nets.now)) =
-        c.in_ok-slots.ensures ∙ ap (λ (n : ℕ). map (number_outside outside) (range_with_len 0 n)) count in
+    c.in_ok-slots.ensures ∙ ap (λ (n : ℕ). map (number_outside outside) (range_with_len 0 n)) count in
     same_place c.args.master c.from_vec.result c.args.prefix.items c.from_vec-2.result (numbers_from outside c.args.next (range_with_len 0 (bit_count c.args.nets.now)))
     c.from_vec-3.result (map (is_bound outside) (range_with_len 0 (bit_count c.args.nets.now)))
     c.from_vec.ensures

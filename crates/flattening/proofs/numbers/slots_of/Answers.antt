@@ -1,4 +1,4 @@
-use Rattle.std.proofs.Common.{◌≡◌, ◌∙◌, List, Option, [], ◌∷◌, ◌++◌, ℕ, map, take, ap, sym, ◌+◌}
+use Rattle.std.proofs.Common.{◌≡◌, ◌∙◌, List, Option, [], ◌∷◌, ◌++◌, ℕ, map, take, get_or, ap, sym, ◌+◌}
 use Rattle.std.specs.List.{range_with_len}
 use Rattle.std.proofs.lemmas.List.{take_more}
 use Rattle.netlist_plan.specs.Flattening.{number_outside}
@@ -13,9 +13,9 @@ pub loop-bit-preserved : goal.loop-bit-preserved
 loop-bit-preserved c =
     let outside = c.args.outside.now in
     let i = c.loop-bit.bit-index in
-    let item = c.loop-bit-item.result in
+    let item = get_or outside i (0, 0) in
     let next : take (i + 1) outside ≡ take i outside ++ item ∷ [] =
-        take_more outside i item c.loop-bit-test.true ∙ ap (λ (x : ℕ × ℕ). take i outside ++ x ∷ []) (sym c.loop-bit-item.is) in
+    take_more outside i (0, 0) c.loop-bit-test.true in
     c.take_number.ensures
     ∙ ap (λ (slots : List (Option ℕ)). number_slots slots item.0 item.1) c.loop-bit.invariant
     ∙ slots_more (take i outside) item.0 item.1 c.args.count
