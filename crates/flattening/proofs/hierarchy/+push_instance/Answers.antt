@@ -33,7 +33,7 @@ loop-step-preserved t c =
           ∙ w.in_ok-push_element-in-Element.ensures
           ∙ ap (λ (s : PlanStep). joined seen (step_additions inner plans delays at next s)) (sym w.in-Element.is)
       | in-Instance+in_ok-inner-in-Instance+in_ok-bound-in-Instance+in_ok-push_instance-in-Instance w ↦
-          let instance = w.in-Instance.instance.now in
+          let instance = w.in-Instance.instance in
           ap so_far w.to-is
           ∙ w.in_ok-push_instance-in-Instance.ensures
           ∙ ap (λ (p : List ℕ). joined seen (inner instance.master p w.deref.result.now next)) w.in_ok-inner-in-Instance.ensures
