@@ -1,9 +1,9 @@
 -- What an instance adds step by step.
-use Rattle.std.proofs.Common.{◌≡◌, ℕ, zero, suc, ◌+◌, ◌-◌, ◌<◌, ◌≤◌, List, [], ◌∷◌, length, get_or, drop, refl, sym, ap, ◌∙◌, arith}
+use Rattle.std.proofs.Common.{◌≡◌, ℕ, suc, ◌+◌, ◌-◌, ◌<◌, ◌≤◌, List, ◌∷◌, length, get_or, drop, sym, ap, ◌∙◌, arith}
 use Rattle.std.proofs.lemmas.List.{drop_more, drop_all}
 use Rattle.netlist_plan.specs.declared.plan.PlanStep.{PlanStep}
 use Rattle.netlist_plan.specs.declared.plan.ModulePlan.{ModulePlan}
-use Rattle.netlist_plan.specs.Additions.{Additions, joined, nothing}
+use Rattle.netlist_plan.specs.Additions.{Additions, joined}
 use Rattle.netlist_plan.specs.Flattening.{no_plan}
 use Rattle.flattening.specs.declared.delays.ItemDelays.{ItemDelays}
 use Rattle.flattening.specs.declared.places.Place.{Place}

@@ -151,7 +151,7 @@ fn top_steps(alloc: Global) -> Result<PlanStepList, AllocError> {
 }
 
 /// The plans of the cell and of the top.
-pub fn plans(alloc: Global) -> Result<Vec<ModulePlan>, AllocError> {
+pub(crate) fn plans(alloc: Global) -> Result<Vec<ModulePlan>, AllocError> {
     let mut plans = Vec::new(alloc);
     plans.push(cell(alloc)?)?;
     plans.push(ModulePlan {
@@ -163,7 +163,7 @@ pub fn plans(alloc: Global) -> Result<Vec<ModulePlan>, AllocError> {
 }
 
 /// The delays of the cell's two items, and no delays.
-pub fn delays(alloc: Global) -> Result<ItemDelays, AllocError> {
+pub(crate) fn delays(alloc: Global) -> Result<ItemDelays, AllocError> {
     let mut list = Vec::new(alloc);
     list.push(Delays {
         count: 3,

@@ -1,4 +1,4 @@
-use Rattle.std.proofs.Common.{◌≡◌, ◌∙◌, arith, List, [], ◌∷◌, ◌++◌, ℕ, map, take, get_or, ap, sym, ◌+◌}
+use Rattle.std.proofs.Common.{◌≡◌, ◌∙◌, List, [], ◌∷◌, ◌++◌, ℕ, map, take, ap, sym, ◌+◌}
 use Rattle.std.specs.List.{range_with_len}
 use Rattle.std.proofs.lemmas.List.{take_more}
 use Rattle.netlist_plan.specs.declared.claims.NetClaim.{NetClaim}

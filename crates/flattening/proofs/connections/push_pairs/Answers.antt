@@ -1,4 +1,4 @@
-use Rattle.std.proofs.Common.{◌≡◌, refl, arith}
+use Rattle.std.proofs.Common.{refl, arith}
 use Rattle.flattening.proofs.ListSteps.{pairs_more, pairs_all}
 use Rattle.flattening.proofs.connections.push_pairs.Goals as goal
 

@@ -1,4 +1,4 @@
-use Rattle.std.proofs.Common.{◌≡◌, ◌+◌, ◌∷◌, [], ◌++◌, ℕ, List, map, slice_index_or, ap, ◌∙◌}
+use Rattle.std.proofs.Common.{◌+◌, ◌∷◌, [], ◌++◌, ℕ, slice_index_or, ap, ◌∙◌}
 use Rattle.flattening.proofs.Ranges.{each_more}
 use Rattle.flattening.proofs.finds.net_numbers.Goals as goal
 

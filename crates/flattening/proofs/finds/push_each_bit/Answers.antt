@@ -1,4 +1,4 @@
-use Rattle.std.proofs.Common.{◌≡◌, ◌∷◌, [], ◌++◌, List, ap, ◌∙◌}
+use Rattle.std.proofs.Common.{◌∷◌, [], ◌++◌, ap, ◌∙◌}
 use Rattle.flat_net.specs.declared.parts.Find.{Find}
 use Rattle.flattening.specs.Spelled.{bit_find}
 use Rattle.flattening.proofs.Ranges.{each_more}

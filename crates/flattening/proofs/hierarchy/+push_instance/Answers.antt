@@ -1,8 +1,8 @@
-use Rattle.std.proofs.Common.{rules, ◌≡◌, ◌∙◌, ◌-◌, ℕ, List, ◌++◌, length, sym, ap, get_or}
+use Rattle.std.proofs.Common.{rules, ◌≡◌, ◌∙◌, ◌-◌, ℕ, List, ◌++◌, length, sym, ap}
 use Rattle.flat_names.specs.Spelling.{Written, part_spelling}
 use Rattle.netlist_plan.specs.declared.plan.PlanNet.{PlanNet}
 use Rattle.netlist_plan.specs.declared.plan.PlanStep.{PlanStep}
-use Rattle.netlist_plan.specs.Additions.{Additions, joined}
+use Rattle.netlist_plan.specs.Additions.{joined}
 use Rattle.netlist_plan.specs.Flattening.{no_plan}
 use Rattle.flattening.specs.Lists.{so_far}
 use Rattle.flattening.specs.Spelled.{additions, nets_additions, place_of, plan_in, step_additions}

@@ -1,4 +1,4 @@
-use Rattle.std.proofs.Common.{◌≡◌, ◌∙◌, ℕ, List, [], length, sym, ap}
+use Rattle.std.proofs.Common.{◌∙◌, ℕ, List, [], length, sym, ap}
 use Rattle.netlist_plan.specs.Additions.{Additions, joined}
 use Rattle.flattening.specs.Spelled.{additions}
 use Rattle.flattening.proofs.SpelledLaws.{flattening_spelled}

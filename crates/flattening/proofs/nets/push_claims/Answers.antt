@@ -1,4 +1,4 @@
-use Rattle.std.proofs.Common.{◌≡◌, ◌+◌, ◌∷◌, [], ◌++◌, ℕ, List, map, slice_index_or, ap, ◌∙◌}
+use Rattle.std.proofs.Common.{◌+◌, ◌∷◌, [], ◌++◌, ℕ, List, slice_index_or, ap, ◌∙◌}
 use Rattle.netlist_plan.specs.declared.claims.NetClaim.{NetClaim}
 use Rattle.flattening.proofs.Ranges.{each_more}
 use Rattle.flattening.proofs.nets.push_claims.Goals as goal

@@ -1,6 +1,6 @@
-use Rattle.std.proofs.Common.{◌≡◌, ◌∙◌, arith}
+use Rattle.std.proofs.Common.{◌∙◌, arith}
 use Rattle.netlist_plan.specs.Flattening.{bit_count}
-use Rattle.flattening.proofs.ListSteps.{count_more, count_all}
+use Rattle.flattening.proofs.ListSteps.{count_more}
 use Rattle.flattening.proofs.numbers.bit_count.Goals as goal
 
 pub loop-net-preserved : goal.loop-net-preserved
