@@ -45,19 +45,19 @@ fn flat_element(
     alloc: Global,
     delays: &ItemDelays,
     at: &Place,
-    e: &PlanElement,
+    element: &PlanElement,
 ) -> Result<Element, AllocError>
-    ensures { IfOk result (λ element. element ≡ flat_element delays.now at.now e.now) }
+    ensures { IfOk result (λ flat. flat ≡ flat_element delays.now at.now element.now) }
 {
     let numbers = at.numbers.as_slice();
     Ok(Element {
-        kind: e.kind,
-        s0: e.strengths.zero,
-        s1: e.strengths.one,
-        delays: delays.of(at.master, e.item),
-        outs: numbers_of(alloc, numbers, e.outs.as_slice())?,
-        ins: numbers_of(alloc, numbers, e.ins.as_slice())?,
-        ends: end_numbers(numbers, e.ends),
+        kind: element.kind,
+        s0: element.strengths.zero,
+        s1: element.strengths.one,
+        delays: delays.of(at.master, element.item),
+        outs: numbers_of(alloc, numbers, element.outs.as_slice())?,
+        ins: numbers_of(alloc, numbers, element.ins.as_slice())?,
+        ends: end_numbers(numbers, element.ends),
     })
 }
 
@@ -67,15 +67,14 @@ pub fn push_element(
     words: &ReservedWords,
     delays: &ItemDelays,
     at: &Place,
-    e: &PlanElement,
+    element: &PlanElement,
     to: &mut Growth,
 ) -> Result<(), AllocError>
     ensures { OnOk result
-        (so_far to.new ≡ joined (so_far to.old) (element_additions delays.now at.now e.now)) }
+        (so_far to.new ≡ joined (so_far to.old) (element_additions delays.now at.now element.now)) }
 {
-    to.elements.push(flat_element(alloc, delays, at, e)?)?;
-    to.element_names
-        .push(element_text(alloc, words, at.prefix.as_slice(), &e.name)?)?;
-    to.resistive.push(e.resistive)?;
+    to.elements.push(flat_element(alloc, delays, at, element)?)?;
+    to.element_names.push(element_text(alloc, words, at.prefix.as_slice(), &element.name)?)?;
+    to.resistive.push(element.resistive)?;
     Ok(())
 }
