@@ -1,0 +1,4 @@
+pub mod Delays
+pub mod Lists
+pub mod Slots
+pub mod Spelled

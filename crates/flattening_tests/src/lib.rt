@@ -1,0 +1,5 @@
+//! The tests of `flattening`.
+#![tactic(auto)]
+
+#[cfg(test)]
+mod tests;
