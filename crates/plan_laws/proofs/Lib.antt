@@ -4,3 +4,5 @@ pub mod BitLaws
 pub mod WithinLaws
 pub mod GateLaws
 pub mod PortLaws
+pub mod NameLaws
+pub mod StepNameLaws
