@@ -6,3 +6,4 @@ pub mod GateLaws
 pub mod PortLaws
 pub mod NameLaws
 pub mod StepNameLaws
+pub mod NetLaws
