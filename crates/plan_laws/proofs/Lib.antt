@@ -7,3 +7,4 @@ pub mod PortLaws
 pub mod NameLaws
 pub mod StepNameLaws
 pub mod NetLaws
+pub mod PartLaws
