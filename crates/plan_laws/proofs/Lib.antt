@@ -8,3 +8,4 @@ pub mod NameLaws
 pub mod StepNameLaws
 pub mod NetLaws
 pub mod PartLaws
+pub mod StepLaws

@@ -31,6 +31,7 @@ use Rattle.netlist_plan.specs.Elements.{connections_bits, runs_bits}
 use Rattle.netlist_plan.specs.Plan.{item_strengths, strengths_at}
 use Rattle.flattening_laws.proofs.Apart.{each_weaker}
 use Rattle.plan_laws.proofs.BitLaws.{AreAmong, among_left, among_new, among_own, among_right, has_name, has_name_left, has_name_right, new_has_name}
+use Rattle.plan_laws.specs.SoundParts.{connected_ports}
 use Rattle.plan_laws.proofs.GateLaws.{AreLevels}
 
 -- ---- levels of strengths
@@ -136,11 +137,6 @@ header-named names parts =
     (λ name e. new_has_name name [] (map Named names ++ rest) refl e) (names_there names rest)
 
 -- ---- connections
-
--- the ports that connections name, in their order
-abbrev pub connected_ports : List PortRuns → List ℕ
-connected_ports [] = []
-connected_ports (c ∷ connections) = option_map_or (λ port. port ∷ []) c.port [] ++ connected_ports connections
 
 pub connections-ports : (scope : Scope) (nets : List ModuleNet) (number : ℕ) (connections : List PortRuns) → map (λ (c : PortBits). c.port) (connections_bits scope nets number connections) ≡ connected_ports connections
 connections-ports scope nets number [] = refl

@@ -12,6 +12,7 @@ use Rattle.expression_bits.specs.declared.runs.BitRun.TheVariants.{Net as NetRun
 use Rattle.netlist_plan.specs.declared.nets.NetSource.{NetSource}
 use Rattle.netlist_plan.specs.declared.nets.NetSource.TheVariants.{Named, Literal}
 use Rattle.netlist_plan.specs.declared.nets.ModuleNet.{ModuleNet}
+use Rattle.netlist_plan.specs.Unnamed.{literal_count}
 use Rattle.netlist_plan.specs.Nets.{bit_count, literal_first, name_first, nets_from}
 use Rattle.netlist_plan.specs.Elements.{constant, constants, literal_constants}
 use Rattle.netlist_plan.specs.Plan.{port_bits}
@@ -130,7 +131,7 @@ module _ (scope : Scope) where
         literal_from number width (place + 1) bits small wide some (omega arith),
       )
 
-      pub constants_sound : (number : ℕ) (runs : List BitRun) → AreAmong sources number runs → AllByRecursion (IsSoundRun scope) runs → number + length runs < 2 ^ 32
+      pub constants_sound : (number : ℕ) (runs : List BitRun) → AreAmong sources number runs → AllByRecursion (IsSoundRun scope) runs → number + literal_count runs ≤ 2 ^ 32
           → AllByRecursion (IsPlanElement udps (bit_count scope nets)) (constants nets number runs)
       constants_sound number [] among is small = tt
       constants_sound number (NetRun name select ∷ runs) among is small = constants_sound number runs among.1 is.1 (omega arith)

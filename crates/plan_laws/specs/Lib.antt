@@ -1,2 +1,3 @@
 pub mod SoundRuns
 pub mod SoundGates
+pub mod SoundParts
