@@ -9,3 +9,4 @@ pub mod StepNameLaws
 pub mod NetLaws
 pub mod PartLaws
 pub mod StepLaws
+pub mod PlanLaws

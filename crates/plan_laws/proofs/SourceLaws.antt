@@ -64,10 +64,9 @@ module _ (P : NetSource → Type 0) where
   each_new before (Literal number bits ∷ sources) h = (h.0, each_new before sources h.1)
 
 -- the nets of a module are such sources
-pub module_sources : Scope → List ModulePart → List NetSource
+abbrev pub module_sources : Scope → List ModulePart → List NetSource
 module_sources scope parts = new_sources [] (flat_map part_sources (numbered_from 0 parts))
 
 pub module_sources_sound : (scope : Scope) (parts : List ModulePart) → AllByRecursion (HasSoundRuns scope) parts → AllByRecursion (IsSource (unnamed_in parts)) (module_sources scope parts)
-unfolding module_sources
 module_sources_sound scope parts is =
     each_new (IsSource (unnamed_in parts)) [] (flat_map part_sources (numbered_from 0 parts)) (sources_sound scope (unnamed_in parts) 0 parts (omega arith) is)
