@@ -1,5 +1,5 @@
 -- The parts of a flat netlist by what a flattening adds are sound.
-use Rattle.std.proofs.Common.{◌≡◌, ◌<◌, ◌≤◌, ◌+◌, ℕ, zero, suc, List, [], ◌∷◌, ◌++◌, length, map, Some, None, refl, sym, ap, subst, ◌∙◌, arith}
+use Rattle.std.proofs.Common.{◌≡◌, ◌<◌, ◌≤◌, ℕ, zero, suc, List, [], ◌∷◌, ◌++◌, length, map, Some, None, refl, sym, ap, subst, ◌∙◌, arith}
 use Rattle.std.specs.Prelude.{slice_get, nat_eq, ◌&&◌, Bool, true, false, not, if◌then◌else◌}
 use Rattle.std.specs.Option.{IsSomeAnd}
 use Rattle.std.specs.List.{All, AllByRecursion, range_with_len, zip}
@@ -28,6 +28,7 @@ use Rattle.net_islands.proofs.Numbers.{numbers-length, places-length}
 use Rattle.netlist_plan.specs.declared.claims.NetClaim.{NetClaim}
 use Rattle.netlist_plan.specs.Additions.{Additions}
 use Rattle.netlist_plan.specs.Claims.{claim_on, is_plain}
+use Rattle.flattening_laws.proofs.Numbers.{length_append, length_map, length_range}
 use Rattle.flattening_laws.specs.SoundAdditions.{AreSoundAdditions, IsClaim}
 use Rattle.flattening_laws.proofs.Apart.{All_from_each, each_at, each_from_All, each_weaker}
 use Rattle.flat_assembly.specs.Assembly.{HavePlainEnds, class_at, classes, flat_parts, net_claims, net_part, parts_with}
@@ -46,14 +47,6 @@ claim_charge ((other, claim) ∷ claims) net h = by_test (claim_charge claims ne
     by_test rest true = h.0
     by_test rest false = rest
 
-length_map : {X Y : Type 0} (f : X → Y) (xs : List X) → length (map f xs) ≡ length xs
-length_map f [] = refl
-length_map f (x ∷ xs) = ap suc (length_map f xs)
-
-length_range : (a n : ℕ) → length (range_with_len a n) ≡ n
-length_range a zero = refl
-length_range a (suc n) = ap suc (length_range (a + 1) n)
-
 length_zip : {X Y : Type 0} (xs : List X) (ys : List Y) → length xs ≡ length ys → length (zip xs ys) ≡ length xs
 length_zip [] ys e = refl
 length_zip (x ∷ xs) [] e = absurd (omega arith)
@@ -68,10 +61,6 @@ each_left P (x ∷ xs) ys h = (h.0, each_left P xs ys h.1)
 each_right : (P : ℕ → Type 0) (xs ys : List ℕ) → AllByRecursion P (xs ++ ys) → AllByRecursion P ys
 each_right P [] ys h = h
 each_right P (x ∷ xs) ys h = each_right P xs ys h.1
-
-length_append : (xs ys : List ℕ) → length (xs ++ ys) ≡ length xs + length ys
-length_append [] ys = omega arith
-length_append (x ∷ xs) ys = let rest = length_append xs ys in omega arith
 
 has_nets : (udps : List Primitive) (count : ℕ) (e : Element) → IsElement count udps e → HasNets count e
 has_nets udps count e is =

@@ -1,10 +1,10 @@
 pub mod Apart
 mod NameTrees
-mod TreeNames
+pub mod TreeNames
 mod StepNames
 pub mod BitNames
 mod Trees
-mod Numbers
+pub mod Numbers
 mod Within
 pub mod SoundLaws
 mod Connected

@@ -1,5 +1,5 @@
 -- The flattening of sound plans is sound.
-use Rattle.std.proofs.Common.{◌≡◌, ℕ, zero, suc, ◌+◌, ◌<◌, List, [], ◌∷◌, ◌++◌, length, map, refl, sym, ap, subst, arith}
+use Rattle.std.proofs.Common.{◌≡◌, ℕ, zero, suc, ◌+◌, ◌<◌, Bool, List, [], ◌∷◌, ◌++◌, length, map, refl, sym, ap, subst, arith}
 use Rattle.std.specs.List.{All, AllByRecursion}
 use Rattle.udp_table.specs.Primitive.{Primitive}
 use Rattle.flat_net.specs.Elements.{IsElement}
@@ -7,6 +7,7 @@ use Rattle.flat_net.specs.Lists.{AreDistinct}
 use Rattle.flat_net.specs.Soundness.{IsAscii, IsFind}
 use Rattle.flat_names.specs.Spelling.{Own, Written, FlatName, spelling, IsFlatName}
 use Rattle.flat_names.proofs.SpellingLaws.{spelling-ascii, spelling-distinct}
+use Rattle.netlist_plan.specs.declared.plan.ModulePlan.{ModulePlan}
 use Rattle.netlist_plan.specs.declared.plan.PlanStep.{PlanStep}
 use Rattle.netlist_plan.specs.declared.plan.PlanStep.TheVariants.{Element as ElementStep, Instance as InstanceStep}
 use Rattle.netlist_plan.specs.Additions.{Additions, joined}
@@ -47,60 +48,39 @@ names_sound tree names same named apart =
       subst (λ (ns : List (List ℕ)). AreDistinct ns) (sym same) (distinct_apart (map spelling tree) differ),
     )
 
+-- a tree in which the nets of a module have the names and elements have none
+module _ (mine : List Bool → ModulePlan → List FlatName)
+    (own : (bound : List Bool) (plan : ModulePlan) → AllByRecursion (λ x. x.path ≡ []) (mine bound plan))
+    (apart : (bound : List Bool) (plan : ModulePlan) → AreApart (map (λ net. net.name) plan.nets) → AreApart (mine bound plan))
+    (named : (bound : List Bool) (plan : ModulePlan) → AllByRecursion IsPlanNet plan.nets → AllByRecursion IsFlatName (mine bound plan))
+    (udps : List Primitive) (h : Hierarchy) (sound : (master : ℕ) → IsSoundPlan udps (plan_at h master)) where
+  own_step_texts : (bits : ℕ) (s : PlanStep) → IsPlanStep udps bits s → StepNamed mine no_names h s
+  own_step_texts bits (ElementStep e) is = tt
+  own_step_texts bits (InstanceStep i) is = is.name
+
+  own_plans_apart : (master : ℕ) → IsPlanApart mine no_names h (plan_at h master)
+  own_plans_apart master =
+      let plan = plan_at h master in
+      let is = sound master in
+      record {
+        mine_apart = λ bound. apart bound plan (apart_distinct (map (λ net. net.name) plan.nets) is.net_names);
+        mine_from = λ bound. own_from_instances mine h (mine bound plan) plan.steps (own bound plan);
+        steps = instances_apart mine h plan.steps is.step_names is.halves;
+      }
+
+  own_plans_named : (master : ℕ) → IsPlanNamed mine no_names h (plan_at h master)
+  own_plans_named master =
+      let plan = plan_at h master in
+      let is = sound master in
+      record {
+        mine_named = λ bound. named bound plan (each_from_All IsPlanNet plan.nets is.nets);
+        steps = each_weaker (IsPlanStep udps (bit_count plan.nets)) (StepNamed mine no_names h) plan.steps (own_step_texts (bit_count plan.nets)) (each_from_All (IsPlanStep udps (bit_count plan.nets)) plan.steps is.steps);
+      }
+
 module _ (udps : List Primitive) (h : Hierarchy) (sound : (master : ℕ) → IsSoundPlan udps (plan_at h master)) where
-  step_texts : (bits : ℕ) (s : PlanStep) → IsPlanStep udps bits s → StepNamed no_records no_names h s
-  step_texts bits (ElementStep e) is = tt
-  step_texts bits (InstanceStep i) is = is.name
-
-  net_step_texts : (bits : ℕ) (s : PlanStep) → IsPlanStep udps bits s → StepNamed net_records no_names h s
-  net_step_texts bits (ElementStep e) is = tt
-  net_step_texts bits (InstanceStep i) is = is.name
-
-  find_step_texts : (bits : ℕ) (s : PlanStep) → IsPlanStep udps bits s → StepNamed find_records no_names h s
-  find_step_texts bits (ElementStep e) is = tt
-  find_step_texts bits (InstanceStep i) is = is.name
-
   element_step_texts : (bits : ℕ) (s : PlanStep) → IsPlanStep udps bits s → StepNamed no_records element_names h s
   element_step_texts bits (ElementStep e) is = (element_named e.name is.name, tt)
   element_step_texts bits (InstanceStep i) is = is.name
-
-  net_plans_apart : (master : ℕ) → IsPlanApart net_records no_names h (plan_at h master)
-  net_plans_apart master =
-      let plan = plan_at h master in
-      let is = sound master in
-      record {
-        mine_apart = λ bound. net_records_apart bound plan (apart_distinct (map (λ net. net.name) plan.nets) is.net_names);
-        mine_from = λ bound. own_from_instances net_records h (net_records bound plan) plan.steps (net_records_own bound plan);
-        steps = instances_apart net_records h plan.steps is.step_names is.halves;
-      }
-
-  net_plans_named : (master : ℕ) → IsPlanNamed net_records no_names h (plan_at h master)
-  net_plans_named master =
-      let plan = plan_at h master in
-      let is = sound master in
-      record {
-        mine_named = λ bound. net_records_named bound plan (each_from_All IsPlanNet plan.nets is.nets);
-        steps = each_weaker (IsPlanStep udps (bit_count plan.nets)) (StepNamed net_records no_names h) plan.steps (net_step_texts (bit_count plan.nets)) (each_from_All (IsPlanStep udps (bit_count plan.nets)) plan.steps is.steps);
-      }
-
-  find_plans_apart : (master : ℕ) → IsPlanApart find_records no_names h (plan_at h master)
-  find_plans_apart master =
-      let plan = plan_at h master in
-      let is = sound master in
-      record {
-        mine_apart = λ bound. find_records_apart bound plan (apart_distinct (map (λ net. net.name) plan.nets) is.net_names);
-        mine_from = λ bound. own_from_instances find_records h (find_records bound plan) plan.steps (find_records_own bound plan);
-        steps = instances_apart find_records h plan.steps is.step_names is.halves;
-      }
-
-  find_plans_named : (master : ℕ) → IsPlanNamed find_records no_names h (plan_at h master)
-  find_plans_named master =
-      let plan = plan_at h master in
-      let is = sound master in
-      record {
-        mine_named = λ bound. find_records_named bound plan (each_from_All IsPlanNet plan.nets is.nets);
-        steps = each_weaker (IsPlanStep udps (bit_count plan.nets)) (StepNamed find_records no_names h) plan.steps (find_step_texts (bit_count plan.nets)) (each_from_All (IsPlanStep udps (bit_count plan.nets)) plan.steps is.steps);
-      }
 
   element_plans_apart : (master : ℕ) → IsPlanApart no_records element_names h (plan_at h master)
   element_plans_apart master =
@@ -168,16 +148,16 @@ additions-sound udps h plans levels top =
     let count : 0 + n ≡ n = omega arith in
     let nets = names_sound (name_tree net_records no_names h levels top [] [] 0) a.net_names
     (tree_agrees net_records no_names h (λ x. x.net_names) (net_list h) levels top [] [] 0)
-    (tree_named net_records no_names h (net_plans_named udps h sound) levels top [] [] 0)
-    (tree_apart net_records no_names h (net_plans_apart udps h sound) levels top [] [] 0) in
+    (tree_named net_records no_names h (own_plans_named net_records net_records_own net_records_apart net_records_named udps h sound) levels top [] [] 0)
+    (tree_apart net_records no_names h (own_plans_apart net_records net_records_own net_records_apart net_records_named udps h sound) levels top [] [] 0) in
     let elements = names_sound (name_tree no_records element_names h levels top [] [] 0) a.element_names
     (tree_agrees no_records element_names h (λ x. x.element_names) (element_list h) levels top [] [] 0)
     (tree_named no_records element_names h (element_plans_named udps h sound) levels top [] [] 0)
     (tree_apart no_records element_names h (element_plans_apart udps h sound) levels top [] [] 0) in
     let finds = names_sound (name_tree find_records no_names h levels top [] [] 0) (map (λ found. found.name) a.finds)
     (tree_agrees find_records no_names h (λ x. map (λ found. found.name) x.finds) (find_list h) levels top [] [] 0)
-    (tree_named find_records no_names h (find_plans_named udps h sound) levels top [] [] 0)
-    (tree_apart find_records no_names h (find_plans_apart udps h sound) levels top [] [] 0) in
+    (tree_named find_records no_names h (own_plans_named find_records find_records_own find_records_apart find_records_named udps h sound) levels top [] [] 0)
+    (tree_apart find_records no_names h (own_plans_apart find_records find_records_own find_records_apart find_records_named udps h sound) levels top [] [] 0) in
     let each = additions_each udps h sound levels top [] [] 0 in
     record {
       net_names = record { all = refl; ascii = nets.0; distinct = nets.1 };

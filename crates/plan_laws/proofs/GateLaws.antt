@@ -15,6 +15,7 @@ use Rattle.netlist_plan.specs.declared.plan.ElementName.{ElementName}
 use Rattle.netlist_plan.specs.declared.plan.ElementName.TheVariants.{Gate, Half, Bit as BitName}
 use Rattle.netlist_plan.specs.Elements.{copied_bit, copies, form_elements, gate_name, half, output_count, single}
 use Rattle.netlist_plan.specs.Flattening.{own_name}
+use Rattle.flattening_laws.proofs.Numbers.{length_append}
 use Rattle.flattening_laws.specs.SoundPlans.{IsElementName, IsPlanElement}
 use Rattle.flattening_laws.proofs.Apart.{All_from_each, each_append}
 use Rattle.plan_laws.specs.SoundGates.{HasTerminalCount, IsTextIfThere}
@@ -48,10 +49,6 @@ module _ (P : ℕ → Type 0) where
   each_get k [] less h = absurd (omega arith)
   each_get zero (x ∷ xs) less h = h.0
   each_get (suc k) (x ∷ xs) less h = each_get k xs (omega arith) h.1
-
-length_append : (xs ys : List ℕ) → length (xs ++ ys) ≡ length xs + length ys
-length_append [] ys = omega arith
-length_append (x ∷ xs) ys = let rest = length_append xs ys in omega arith
 
 pub name_is : (number : ℕ) (name : Option (List ℕ)) → number < 2 ^ 32 → IsTextIfThere name → IsOwn (own_name (gate_name number name))
 name_is number None small is = small

@@ -22,16 +22,13 @@ use Rattle.netlist_plan.specs.Nets.{literal_first}
 use Rattle.netlist_plan.specs.Elements.{constant, constants, copied_bit, form_elements, gate_name, literal_constants, runs_bits, terminal_bits}
 use Rattle.netlist_plan.specs.Plan.{Given, element_steps, form_at, gate_elements, own_steps, pair_elements, part_steps, strengths_at}
 use Rattle.flat_net.specs.Lists.{AreDistinct}
+use Rattle.flattening_laws.proofs.TreeNames.{map_append}
 use Rattle.flattening_laws.specs.SoundPlans.{AreNotHalved, step_name}
 use Rattle.flattening_laws.proofs.Apart.{each_append, each_weaker}
 use Rattle.plan_laws.proofs.NameLaws.{AreAllUnlike, AreUnlike, bit_names, bit_names_owner, bit_names_unlike, owner, owners_unlike, unlike_append, unlike_distinct, unlike_halves}
 
 abbrev pub names_of : List PlanElement → List ElementName
 names_of elements = map (λ (e : PlanElement). e.name) elements
-
-map_append : {X Y : Type 0} (f : X → Y) (xs ys : List X) → map f (xs ++ ys) ≡ map f xs ++ map f ys
-map_append f [] ys = refl
-map_append f (x ∷ xs) ys = ap (λ zs. f x ∷ zs) (map_append f xs ys)
 
 -- the owner is a thing without name whose number lies in a range, or has the text
 abbrev pub IsOf : Option (List ℕ) → ℕ → ℕ → OwnName → Type 0

@@ -1,7 +1,7 @@
 -- The pins of elements and the bits of connections are bits of the module's nets.
-use Rattle.std.proofs.Common.{◌≡◌, ℕ, zero, suc, ◌+◌, ◌<◌, List, [], ◌∷◌, ◌++◌, length, Option, Some, None, refl, ap, subst, arith}
+use Rattle.std.proofs.Common.{◌≡◌, ℕ, suc, ◌+◌, ◌<◌, List, [], ◌∷◌, ◌++◌, length, Option, Some, None, refl, ap, subst, arith}
 use Rattle.std.specs.Prelude.{slice_index_or}
-use Rattle.std.specs.List.{AllByRecursion, flat_map, range_with_len}
+use Rattle.std.specs.List.{AllByRecursion, flat_map}
 use Rattle.v_tree.specs.declared.expressions.RangeBounds.{RangeBounds}
 use Rattle.v_tree.specs.declared.expressions.Select.{Select}
 use Rattle.module_scope.specs.declared.scopes.Scope.{Scope}
@@ -15,6 +15,7 @@ use Rattle.netlist_plan.specs.declared.nets.ModuleNet.{ModuleNet}
 use Rattle.netlist_plan.specs.Unnamed.{literal_count}
 use Rattle.netlist_plan.specs.Nets.{bit_count, literal_first, name_first, nets_from, run_bits, select_offset}
 use Rattle.netlist_plan.specs.Elements.{runs_bits, terminal_bits}
+use Rattle.flattening_laws.proofs.Numbers.{length_append, length_range}
 use Rattle.flattening_laws.proofs.Apart.{each_append}
 use Rattle.flattening_laws.proofs.BitNames.{each_range}
 use Rattle.plan_laws.specs.SoundRuns.{IsSoundRun}
@@ -34,14 +35,6 @@ width_some : (range : Option RangeBounds) (select : Option Select) → 0 < width
 width_some None None = omega arith
 width_some (Some range) None = omega arith
 width_some range (Some select) = omega arith
-
-length_range : (a n : ℕ) → length (range_with_len a n) ≡ n
-length_range a zero = refl
-length_range a (suc n) = ap suc (length_range (a + 1) n)
-
-length_append : {X : Type 0} (xs ys : List X) → length (xs ++ ys) ≡ length xs + length ys
-length_append [] ys = omega arith
-length_append (x ∷ xs) ys = let rest = length_append xs ys in omega arith
 
 module _ (scope : Scope) (sources : List NetSource) (rising : AreRising 0 sources) where
   abbrev nets : List ModuleNet
