@@ -1,8 +1,8 @@
 //! The delays of an item.
 ghost use Rattle.std.specs.Prelude.{◌≡◌, ◌<◌, ◌^◌, [], ◌∷◌, map, take};
 ghost use Rattle.std.specs.Option.{option_map};
-ghost use Rattle.delay_rule.specs.Delay.{delay_list};
 ghost use Rattle.chosen_delays.specs.Chosen.{all_or_none, delays_of, value_ticks};
+ghost use Rattle.chosen_delays.specs.Made.{delays_from, no_delays};
 
 use crate::amounts::amount_ticks;
 use crate::choice::Mtm;
@@ -23,8 +23,8 @@ fn value_ticks(choice: Mtm, scale: DelayScale, value: &DelayValue) -> Option<u32
 }
 
 /// No delay.
-fn no_delays() -> Delays
-    ensures { delay_list result ≡ [] }
+pub fn no_delays() -> Delays
+    ensures { result ≡ no_delays }
 {
     Delays {
         count: 0,
@@ -35,7 +35,7 @@ fn no_delays() -> Delays
 /// A delay for all changes.
 fn one_delay(all: u32) -> Delays
     requires { all < 2 ^ 31 }
-    ensures { delay_list result ≡ all ∷ [] }
+    ensures { result ≡ delays_from (all ∷ []) }
 {
     Delays {
         count: 1,
@@ -47,7 +47,7 @@ fn one_delay(all: u32) -> Delays
 fn two_delays(rise: u32, fall: u32) -> Delays
     requires rise { rise < 2 ^ 31 }
     requires fall { fall < 2 ^ 31 }
-    ensures { delay_list result ≡ rise ∷ fall ∷ [] }
+    ensures { result ≡ delays_from (rise ∷ fall ∷ []) }
 {
     Delays {
         count: 2,
@@ -60,7 +60,7 @@ fn three_delays(rise: u32, fall: u32, off: u32) -> Delays
     requires rise { rise < 2 ^ 31 }
     requires fall { fall < 2 ^ 31 }
     requires off { off < 2 ^ 31 }
-    ensures { delay_list result ≡ rise ∷ fall ∷ off ∷ [] }
+    ensures { result ≡ delays_from (rise ∷ fall ∷ off ∷ []) }
 {
     Delays {
         count: 3,
@@ -70,9 +70,9 @@ fn three_delays(rise: u32, fall: u32, off: u32) -> Delays
 
 /// The delays that the first three values give.
 fn values_delays(choice: Mtm, scale: DelayScale, values: &[DelayValue]) -> Option<Delays>
-    ensures { option_map delay_list result
-        ≡ all_or_none (map (value_ticks choice scale.unit scale.precision scale.tick)
-        (take 3 values.now)) }
+    ensures { result ≡ option_map delays_from
+        (all_or_none (map (value_ticks choice scale.unit scale.precision scale.tick)
+        (take 3 values.now))) }
 {
     match values {
         [] => Some(no_delays()),
@@ -92,8 +92,8 @@ fn values_delays(choice: Mtm, scale: DelayScale, values: &[DelayValue]) -> Optio
 /// The delays of an item in ticks (IEEE 1364-2005, 7.14): none where there is no `#`, and of more than
 /// three values the first three. None where one of them is 2^31 ticks or more.
 pub fn delays_of(choice: Mtm, scale: DelayScale, spec: &Option<DelaySpec>) -> Option<Delays>
-    ensures { option_map delay_list result
-        ≡ delays_of choice scale.unit scale.precision scale.tick spec.now }
+    ensures { result ≡ option_map delays_from
+        (delays_of choice scale.unit scale.precision scale.tick spec.now) }
 {
     match spec {
         None => Some(no_delays()),

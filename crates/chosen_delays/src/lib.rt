@@ -7,7 +7,7 @@ mod delays;
 mod scale;
 
 pub use choice::Mtm;
-pub use delays::delays_of;
+pub use delays::{delays_of, no_delays};
 pub use scale::DelayScale;
 
 #[cfg(test)]

@@ -1,0 +1,5 @@
+pub mod TreeLaws
+pub mod RangeLaws
+pub mod RunLaws
+pub mod PartLaws
+pub mod EvenLaws

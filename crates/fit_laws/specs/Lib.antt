@@ -1,0 +1,2 @@
+pub mod FitParts
+pub mod EvenParts

@@ -1,0 +1,2 @@
+//! Definitions and laws alone: what unbroken rules on the names of a module give of its parts.
+#![tactic(auto)]

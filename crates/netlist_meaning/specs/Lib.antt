@@ -1,0 +1,4 @@
+pub mod Plans
+pub mod Delays
+pub mod Netlist
+pub mod Limits
