@@ -1,0 +1,2 @@
+pub mod PartCounts
+pub mod PortWidths
