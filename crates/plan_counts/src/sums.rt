@@ -15,7 +15,7 @@ pub fn sum_of(first: u64, second: u64) -> Result<u64, AllocError>
 
 /// A count. One that a `u64` doesn't hold is want of memory.
 pub fn count_of(count: u128) -> Result<u64, AllocError>
-    ensures { IfOk result (λ result. result ≡ count) }
+    ensures { IfOk result (λ kept. kept ≡ count) }
 {
     match u64::try_from(count) {
         Ok(count) => Ok(count),

@@ -1,0 +1,5 @@
+mod Lengths
+mod ElementLaws
+mod InstanceLaws
+mod CountLaws
+pub mod PortLaws
