@@ -2,4 +2,5 @@ mod Lengths
 mod ElementLaws
 mod InstanceLaws
 mod CountLaws
+mod NetLaws
 pub mod PortLaws

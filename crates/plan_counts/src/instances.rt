@@ -26,11 +26,7 @@ fn widths_at(widths: &[WidthList], master: usize) -> &[u64]
 }
 
 /// How many bits of a port are connected; a port that isn't there has none.
-fn bound_bits(
-    scope: &Scope,
-    widths: &[u64],
-    connection: &PortRuns,
-) -> Result<u64, AllocError>
+fn bound_bits(scope: &Scope, widths: &[u64], connection: &PortRuns) -> Result<u64, AllocError>
     ensures { IfOk result (λ bits. bits ≡ bound_bits scope.now widths.now connection.now) }
 {
     let Some(port) = connection.port else {
@@ -83,7 +79,10 @@ fn push_part(
 {
     match part {
         ModulePart::Names(_) | ModulePart::Gate(_) | ModulePart::Pair(_) => Ok(()),
-        ModulePart::Instance(instance) => counts.push(counts_of(scope, widths, instance)?),
+        ModulePart::Instance(instance) => {
+            counts.push(counts_of(scope, widths, instance)?)?;
+            Ok(())
+        }
     }
 }
 
@@ -98,7 +97,7 @@ pub fn instance_counts(
 ) -> Result<InstanceCountsList, AllocError>
     ensures { IfOk result (λ counts. (given : Meanings) (m : ModuleValue) (plans : List ModulePlan) →
         map widths_in plans ≡ widths.now → counts
-            ≡ map (instance_counts plans) (instance_list (module_plan scope.now given m parts.now).steps)) }
+        ≡ map (instance_counts plans) (instance_list (module_plan scope.now given m parts.now).steps)) }
 {
     let mut counts = Vec::new(alloc);
     for part in parts {
