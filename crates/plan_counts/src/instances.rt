@@ -86,8 +86,8 @@ fn push_part(
     }
 }
 
-/// The instances in a module, by its scope and its parts, where the widths of the ports of each module
-/// are given: how many bits each connects. A connection counts up to the width of its port, and one
+/// How many bits each instance in a module connects, by the scope and the parts of that module and
+/// the widths of the ports of all modules. A connection counts up to the width of its port, and one
 /// without a port counts nothing. A count that a `u64` doesn't hold is want of memory.
 pub fn instance_counts(
     alloc: Global,
@@ -95,9 +95,10 @@ pub fn instance_counts(
     widths: &[WidthList],
     parts: &[ModulePart],
 ) -> Result<InstanceCountsList, AllocError>
-    ensures { IfOk result (λ counts. (given : Meanings) (m : ModuleValue) (plans : List ModulePlan) →
-        map widths_in plans ≡ widths.now → counts
-        ≡ map (instance_counts plans) (instance_list (module_plan scope.now given m parts.now).steps)) }
+    ensures { IfOk result (λ counts.
+        (given : Meanings) (m : ModuleValue) (plans : List ModulePlan) →
+        map widths_in plans ≡ widths.now → counts ≡ map (instance_counts plans)
+        (instance_list (module_plan scope.now given m parts.now).steps)) }
 {
     let mut counts = Vec::new(alloc);
     for part in parts {

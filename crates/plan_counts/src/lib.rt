@@ -1,5 +1,5 @@
-//! How many nets, elements and names the plan of a module has, and how many bits each of its instances
-//! connects, by its parts, without the plan.
+//! How many nets, elements and names the plan of a module has, and how many bits each of its
+//! instances connects, by its parts, without the plan.
 #![tactic(auto)]
 
 mod elements;

@@ -10,8 +10,8 @@ use module_scope::Scope;
 use netlist_plan::{ModuleNet, NetSource};
 use std::alloc::AllocError;
 
-/// How many bits a net of a plan has: a name without a net counts as a scalar, and so does a literal
-/// without bits.
+/// How many bits a net of a plan has. A name without a net and a literal without bits count as a
+/// scalar.
 fn net_bits(scope: &Scope, net: &ModuleNet) -> u64
     ensures { result ≡ range_width (plan_net scope.now net.now).range }
 {

@@ -10,8 +10,8 @@ use std::alloc::{AllocError, Global};
 /// The widths of a module's ports in bits, in the order of its header.
 pub type WidthList = ListOf<u64>;
 
-/// The widths of the ports of a module, at most 2^32 bits each. A port whose name has no net counts as a
-/// scalar.
+/// The widths of the ports of a module, at most 2^32 bits each. A port whose name has no net counts
+/// as a scalar.
 pub fn port_widths(alloc: Global, table: &PortTable) -> Result<WidthList, AllocError>
     ensures { IfOk result (λ widths. widths ≡ port_widths table.now) }
 {
