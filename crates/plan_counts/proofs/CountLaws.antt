@@ -1,10 +1,9 @@
 -- The counts of a module's plan, by its parts.
-use Rattle.std.proofs.Common.{◌≡◌, ℕ, ◌+◌, List, length, map, sym, ap, ◌∙◌}
+use Rattle.std.proofs.Common.{◌≡◌, ℕ, ◌+◌, List, map, sym, ap, ◌∙◌}
 use Rattle.std.specs.List.{flat_map}
 use Rattle.v_tree.specs.declared.modules.Module.{Module}
 use Rattle.module_scope.specs.declared.scopes.Scope.{Scope}
 use Rattle.module_parts.specs.declared.parts.ModulePart.{ModulePart}
-use Rattle.hierarchy_counts.specs.declared.counts.ModuleCounts.{ModuleCounts}
 use Rattle.netlist_plan.specs.declared.plan.ModulePlan.{ModulePlan}
 use Rattle.netlist_plan.specs.Nets.{module_nets}
 use Rattle.netlist_plan.specs.Plan.{Given, Meanings, module_plan, plan_net}

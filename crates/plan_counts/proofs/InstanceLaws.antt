@@ -4,7 +4,6 @@ use Rattle.std.specs.Prelude.{slice_get, slice_index_or, sum_by}
 use Rattle.std.specs.Option.{option_map_or}
 use Rattle.std.specs.List.{flat_map}
 use Rattle.std.proofs.lemmas.List.Sums.{sum_by-cons}
-use Rattle.hierarchy_counts.specs.declared.counts.InstanceCounts.{InstanceCounts}
 use Rattle.module_scope.specs.declared.scopes.Scope.{Scope}
 use Rattle.expression_bits.specs.Runs.{runs_width}
 use Rattle.module_parts.specs.declared.parts.PortRuns.{PortRuns}

@@ -7,7 +7,6 @@ use Rattle.module_scope.specs.declared.scopes.Scope.{Scope}
 use Rattle.module_ports.specs.Ports.{Port, net_at}
 use Rattle.item_parts.specs.Widths.{net_range, range_width}
 use Rattle.netlist_plan.specs.declared.nets.ModuleNet.{ModuleNet}
-use Rattle.netlist_plan.specs.declared.plan.PlanNet.{PlanNet}
 use Rattle.netlist_plan.specs.Plan.{plan_net}
 use Rattle.netlist_plan.specs.Flattening.{bit_count}
 use Rattle.plan_counts.specs.PortWidths.{port_widths}

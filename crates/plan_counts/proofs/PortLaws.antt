@@ -1,6 +1,6 @@
 -- The ports of a plan are as wide as those of its module.
 use Rattle.std.proofs.Common.{◌≡◌, ℕ, ◌+◌, List, [], ◌∷◌, length, map, refl, ap, ◌∙◌}
-use Rattle.std.specs.List.{enumerate_from, range_with_len}
+use Rattle.std.specs.List.{enumerate_from}
 use Rattle.v_tree.specs.declared.modules.Module.{Module}
 use Rattle.module_scope.specs.declared.scopes.Scope.{Scope}
 use Rattle.module_scope.specs.Scopes.{scope_net}

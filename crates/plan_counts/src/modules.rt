@@ -35,9 +35,9 @@ fn instances_in(parts: &[ModulePart]) -> Result<u64, AllocError>
     Ok(count)
 }
 
-/// How many bits of nets, how many elements, and how many names of bits and of instances the plan of
-/// a module has, by its scope and its parts. A count that a `u64` doesn't hold is want of memory. It
-/// takes time in proportion to the parts and their runs.
+/// How many bits of nets, how many elements, and how many names of bits and of instances the plan
+/// of a module has, by its scope and its parts. A count that a `u64` doesn't hold is want of memory.
+/// It takes time in proportion to the parts and their runs.
 pub fn module_counts(
     alloc: Global,
     scope: &Scope,
