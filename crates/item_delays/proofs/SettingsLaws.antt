@@ -1,7 +1,6 @@
 -- What is in force at a module keeps what delays are counted in, where no precision is greater than its unit.
-use Rattle.std.proofs.Common.{◌≡◌, ℕ, ℤ, pos, negsuc, Bool, true, false, List, [], ◌∷◌, ◌++◌, length, Option, None, Some, refl, ap, subst, arith}
+use Rattle.std.proofs.Common.{◌≡◌, ℕ, ℤ, pos, Bool, true, false, List, [], ◌∷◌, ◌++◌, length, Option, None, Some, refl, ap, subst, arith}
 use Rattle.std.specs.Prelude.{◌≤ℤ◌, int_lt, if◌then◌else◌}
-use Rattle.std.specs.Int.{int_min}
 use Rattle.std.specs.Option.{unwrap_or}
 use Rattle.std.specs.List.{AllByRecursion, flat_map}
 use Rattle.std.proofs.Math.Logic.{∥∥₁_elim}

@@ -30,10 +30,10 @@ fn with_module(is_long: bool, is_reached: bool, has_long: bool) -> bool
 }
 
 /// The delays of a file's items in ticks (IEEE 1364-2005, 7.14 and 19.8), given what is in force at
-/// each module, which modules are reached, and whether the least, typical or greatest ones count. An
-/// item one of whose delays is 2^31 ticks or more has none, and the answer says whether there is such
-/// an item in a module that is reached. No precision may be greater than its unit. An error comes
-/// only for want of memory.
+/// each module, which modules are reached, and whether the least, typical or greatest ones count.
+/// An item one of whose delays is 2^31 ticks or more has none, and the answer says whether there is
+/// such an item in a module that is reached. No precision may be greater than its unit. An error
+/// comes only for want of memory.
 pub fn item_delays(
     alloc: Global,
     file: &File,

@@ -1,7 +1,6 @@
 use Rattle.std.proofs.Common.{◌≡◌, ◌∙◌, Bool, ap, sym}
 use Rattle.std.specs.Prelude.{◌||◌}
 use Rattle.std.specs.Option.{is_none}
-use Rattle.item_delays.specs.Scaled.{has_long_item}
 use Rattle.item_delays.proofs.ListLaws.{none-is, or_first, or_second}
 use Rattle.item_delays.proofs.ScaledLaws.{delays_more, long_more}
 use Rattle.item_delays.proofs.items.module_delays.Goals as goal
@@ -11,7 +10,7 @@ pub loop-item-preserved : goal.loop-item-preserved
 loop-item-preserved c =
     let made = c.item_ticks-ticks.result in
     let either : c.if-is_long.is_long ≡ (c.loop-item.is_long || is_none made) = elim c.if-is_long.branch [
-      then-is_long w ↦ or_first c.loop-item.is_long (is_none made) c.if-is_long.is_long w.is_long-is w.if-is_long.true
+      | then-is_long w ↦ or_first c.loop-item.is_long (is_none made) c.if-is_long.is_long w.is_long-is w.if-is_long.true
       | else-is_long w ↦ or_second c.loop-item.is_long (is_none made) c.if-is_long.is_long (w.is_long-is ∙ none-is made w.is_none-is_long.result w.is_none-is_long.ensures) w.if-is_long.false
     ] in
     record {
