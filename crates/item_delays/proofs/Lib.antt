@@ -1,0 +1,4 @@
+pub mod ListLaws
+pub mod ScaledLaws
+pub mod SettingsLaws
+pub mod ReachedLaws
